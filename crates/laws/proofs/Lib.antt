@@ -1,0 +1,9 @@
+pub mod Lists
+pub mod Options
+pub mod Truth
+pub mod Negation
+pub mod Broken
+pub mod Lawful
+pub mod Sorted
+pub mod Checks
+pub mod Tables

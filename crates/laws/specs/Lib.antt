@@ -1,0 +1,10 @@
+pub mod Lists
+pub mod Literals
+pub mod Clauses
+pub mod Tables
+pub mod Plans
+pub mod Faults
+pub mod Checks
+pub mod Sorted
+pub mod Checked
+pub mod Outcomes

@@ -1,0 +1,4 @@
+pub mod Limited
+pub mod Codes
+pub mod Held
+pub mod Judged

@@ -1,0 +1,32 @@
+// The sheet file, record by record and as a whole, and the answer record.
+mod answer;
+mod checks;
+mod decode;
+mod reader;
+mod record;
+mod run;
+mod standing;
+
+pub use answer::Answer;
+pub use answer::AnswerDebug;
+pub use answer::AnswerEq;
+pub use answer::AnswerError;
+pub use answer::AnswerErrorDebug;
+pub use answer::AnswerErrorDisplay;
+pub use answer::AnswerErrorEq;
+pub use answer::AnswerErrorError;
+pub use answer::AnswerErrorPartialEq;
+pub use answer::AnswerPartialEq;
+pub use answer::WriteError;
+pub use answer::WriteErrorDebug;
+pub use answer::WriteErrorDisplay;
+pub use answer::WriteErrorEq;
+pub use answer::WriteErrorError;
+pub use answer::WriteErrorFromAlloc;
+pub use answer::WriteErrorPartialEq;
+pub use answer::answers_stand;
+pub use decode::codes;
+pub use reader::Reader;
+pub use record::Record;
+pub use run::scan;
+pub use standing::reader_stands;

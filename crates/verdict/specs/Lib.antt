@@ -1,0 +1,9 @@
+pub mod Failures
+pub mod Hours
+pub mod Judging
+pub mod Loading
+pub mod Meanings
+pub mod Offsets
+pub mod Reported
+pub mod Texts
+pub mod Words

@@ -1,4 +1,6 @@
 // audit SHEET ANSWER: holds the plan of an answer file against a sheet file, clause by clause and pin by pin.
+#![tactic(auto)]
+
 use anyhow::anyhow;
 use std::{env, fs};
 use verdict::{Verdict, audit};

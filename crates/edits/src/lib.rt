@@ -1,5 +1,7 @@
 // Edits of a table in place: clauses and literals are taken away, literals set, clauses appended. A table stays lawful by
 // its type, and taking away cannot fail.
+#![tactic(auto)]
+
 mod clauses;
 mod codes;
 mod growing;

@@ -5,7 +5,7 @@ use Rattle.std.proofs.lemmas.List.FromFn.{length-range_with_len, get_or-range_wi
 
 -- among the first n numbers stand exactly those below n
 pub has_counting : (n k : ℕ) → k < n → Contains (range_with_len 0 n) k
-has_counting n k lt = (k, omega (arith, length-range_with_len 0 n), λ d. omega (arith, get_or-range_with_len 0 n k d lt))
+has_counting n k lt = (k, omega (arith, length-range_with_len 0 n), omega (arith, get_or-range_with_len 0 n k k lt))
 
 pub counting_has : (n k : ℕ) → Contains (range_with_len 0 n) k → k < n
-counting_has n k (i, lt, at) = omega (arith, length-range_with_len 0 n, at 0, get_or-range_with_len 0 n i 0 (omega (arith, length-range_with_len 0 n)))
+counting_has n k (i, lt, at) = omega (arith, length-range_with_len 0 n, at, get_or-range_with_len 0 n i k (omega (arith, length-range_with_len 0 n)))

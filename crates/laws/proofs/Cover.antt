@@ -35,7 +35,7 @@ inside_true p C D h true-C =
 
 -- what stands in a list stands there without y, or is y
 has_middle : {X : Type 0} (xs ys : List X) (y x : X) → Contains ((xs ++ y ∷ []) ++ ys) x → Contains (xs ++ ys) x ⊎ (y ≡ x)
-has_middle [] ys y x (zero, lt, at) = inr (at y)
+has_middle [] ys y x (zero, lt, at) = inr at
 has_middle [] ys y x (suc k, lt, at) = inl (k, omega arith, at)
 has_middle (z ∷ zs) ys y x (zero, lt, at) = inl (0, omega arith, at)
 has_middle (z ∷ zs) ys y x (suc k, lt, at) =
@@ -123,7 +123,7 @@ module _ (before : List (List ℕ)) (C : List ℕ) (Ds : List (List ℕ)) where
 below_uncovered : (before Cs : List (List ℕ)) (X : List ℕ) → Contains Cs X → Below (before ++ uncovered before Cs) X
 below_uncovered before [] X (k, lt, at) = absurd (omega arith)
 below_uncovered before (C ∷ Cs) X (zero, lt, at) =
-    subst (Below (before ++ uncovered before (C ∷ Cs))) (at [])
+    subst (Below (before ++ uncovered before (C ∷ Cs))) at
     (uncovered_both before C Cs (λ Ds. Below (before ++ Ds) C)
     (below_covered before C (behind before C Cs) Cs (below_uncovered (before ++ C ∷ []) Cs))
     (λ _. record {

@@ -1,6 +1,6 @@
 -- Elements of lists by tests: what some, each and the kept elements say.
 use Rattle.std.proofs.Common.{◌≡◌, ℕ, zero, suc, ◌<◌, ◌≤◌, Bool, true, false, ◌&&◌, ltb, leb, ◌⊎◌, List, [], ◌∷◌, length, Contains, filter, sym, refl, ap, ◌∙◌, subst, inl, inr, arith}
-use Rattle.std.proofs.lemmas.List.Elements.{All-contains, All-contains_itself, All-filter, filter_passes}
+use Rattle.std.proofs.lemmas.List.Elements.{All-contains, All-contains_itself, All-filter, at_from_Contains, filter_passes}
 use Rattle.std.proofs.lemmas.Bool.{and_parts, and_from, both_ways, or_cases, cond_both}
 use Rattle.std.proofs.lemmas.Bool.Decides.{nat_tests}
 use Rattle.laws.specs.Clauses.{ascends, lawful, literals, within}
@@ -12,13 +12,13 @@ use Rattle.laws.proofs.Options.{no}
 module _ {X : Type 0} where
   -- the first element stands in a list, and so does what stands behind it
   pub has_here : (x : X) (xs : List X) → Contains (x ∷ xs) x
-  has_here x xs = (0, omega arith, λ d. refl)
+  has_here x xs = (0, omega arith, refl)
 
   pub has_later : (x : X) (xs : List X) (y : X) → Contains xs y → Contains (x ∷ xs) y
   has_later x xs y (k, lt, is) = (suc k, omega arith, is)
 
   pub has_cases : (x : X) (xs : List X) (y : X) → Contains (x ∷ xs) y → (x ≡ y) ⊎ Contains xs y
-  has_cases x xs y (zero, lt, is) = inl (is x)
+  has_cases x xs y (zero, lt, is) = inl is
   has_cases x xs y (suc k, lt, is) = inr (k, omega arith, is)
 
   pub has_none : (y : X) → Contains [] y → ⊥
@@ -34,7 +34,9 @@ module _ {X : Type 0} where
       ]
 
   pub any_from : (f : X → Bool) (xs : List X) (x : X) → Contains xs x → f x ≡ true → any f xs ≡ true
-  any_from f xs x (k, lt, is) t = (decides_any f xs).1 (k, lt, λ d. subst (λ y. f y ≡ true) (sym (is d)) t)
+  any_from f xs x stands t =
+      let (k, lt, at) = at_from_Contains xs x stands in
+      (decides_any f xs).1 (k, lt, λ d. subst (λ y. f y ≡ true) (sym (at d)) t)
 
   -- no element passes exactly if none that stands in the list does
   pub any_none : (f : X → Bool) (xs : List X) (x : X) → any f xs ≡ false → Contains xs x → f x ≡ false

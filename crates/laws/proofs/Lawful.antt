@@ -1,6 +1,6 @@
 -- Lawful clauses in the subject's words.
 use Rattle.std.proofs.Common.{◌≡◌, ℕ, zero, suc, ◌<◌, ◌≤◌, true, ltb, leb, List, [], ◌∷◌, length, get_or, Decides, All, Contains, sym, refl, ap, ◌∙◌, inl, inr, arith}
-use Rattle.std.proofs.lemmas.List.Elements.{All-from_get_or}
+use Rattle.std.proofs.lemmas.List.Elements.{All-from_get_or, at_from_Contains}
 use Rattle.std.proofs.lemmas.Bool.{leb-true, le-leb, ltb-true, lt-ltb, and_parts, and_from, cases_order}
 use Rattle.std.proofs.lemmas.Bool.Decides.{Decides-by_and, Decides-and, Decides-like}
 use Rattle.laws.specs.Lists.{every}
@@ -44,12 +44,14 @@ lawfulness n Cs = Decides-by_and (lawful n) (WellFormed n) (every (lawful n)) (d
 -- a lawful clause has at most one literal of a choice
 pub one_of_choice :
     (n : ℕ) (C : List ℕ) → lawful n C ≡ true → (l m : ℕ) → Contains C l → Contains C m → choice l ≡ choice m → l ≡ m
-one_of_choice n C h l m (i, in-i, at_i) (j, in-j, at_j) same =
+one_of_choice n C h l m in_l in_m same =
     let order = ((decides_lawful n C).0 h).order in
-    let is-l = at_i 0 in
-    let is_m = at_j 0 in
+    let (i, in_i, at_i) = at_from_Contains C l in_l in
+    let (j, in_j, at_j) = at_from_Contains C m in_m in
+    let is_l : get_or C i 0 ≡ l = at_i 0 in
+    let is_m : get_or C j 0 ≡ m = at_j 0 in
     elim (cases_order i j) [
-      | inl e ↦ sym is-l ∙ ap (λ k. get_or C k 0) e ∙ is_m
-      | inr (inl less) ↦ absurd (omega (arith, order i j less in-j, ap choice is-l, ap choice is_m))
-      | inr (inr more) ↦ absurd (omega (arith, order j i more in-i, ap choice is-l, ap choice is_m))
+      | inl e ↦ sym is_l ∙ ap (λ k. get_or C k 0) e ∙ is_m
+      | inr (inl less) ↦ absurd (omega (arith, order i j less in_j, ap choice is_l, ap choice is_m))
+      | inr (inr more) ↦ absurd (omega (arith, order j i more in_i, ap choice is_l, ap choice is_m))
     ]

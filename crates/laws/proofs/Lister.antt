@@ -3,7 +3,7 @@ use Rattle.std.proofs.Common.{◌≡◌, ℕ, zero, suc, ◌+◌, ◌*◌, ◌/�
 use native.Mathlib.Nat.{pow-succ', div-div-eq-div-mul}
 use Rattle.std.specs.List.{range_with_len}
 use Rattle.std.proofs.lemmas.List.FromFn.{length-range_with_len, get_or-range_with_len}
-use Rattle.std.proofs.lemmas.List.Elements.{All-get_or, All-from_get_or, All-contains, All-contains_itself, All-filter, All-set, All-weaker}
+use Rattle.std.proofs.lemmas.List.Elements.{All-get_or, All-head, All-tail, All-from_get_or, All-contains, All-contains_itself, All-filter, All-set, All-weaker}
 use Rattle.std.proofs.lemmas.List.{length-set, get_or-set_same, get_or-set_other, get_or_past}
 use Rattle.std.proofs.lemmas.Bool.{cases_lt, cases_order, cond_both, both_ways, eq-eqb, leb-true, leb-false, or_left, or_right}
 use Rattle.std.proofs.lemmas.Bool.Decides.{nat_tests}
@@ -78,13 +78,13 @@ numbered_bits :
     → get_or (numbered m cs p) (get_or cs i 0) 0 ≡ (m / 2 ^ i) % 2
 numbered_bits m [] p i up low lt = absurd (omega arith)
 numbered_bits m (c ∷ cs) p zero up low lt =
-    get_or-set_same (numbered (m / 2) cs p) c (m % 2) 0 (omega (arith, low.0, length_numbered (m / 2) cs p))
+    get_or-set_same (numbered (m / 2) cs p) c (m % 2) 0 (omega (arith, All-head (λ d. d < length p) c cs low, length_numbered (m / 2) cs p))
     ∙ ap (λ x. x % 2) (sym (div-one m))
 numbered_bits m (c ∷ cs) p (suc i) up low lt =
     let in' : i < length cs = omega arith in
     let above = All-get_or (λ d. c < d) cs i 0 in' up.0 in
     get_or-set_other (numbered (m / 2) cs p) c (get_or cs i 0) (m % 2) 0 (λ e. omega arith)
-    ∙ numbered_bits (m / 2) cs p i up.1 low.1 in'
+    ∙ numbered_bits (m / 2) cs p i up.1 (All-tail (λ d. d < length p) c cs low) in'
     ∙ ap (λ x. x % 2) (div-div-eq-div-mul m 2 (2 ^ i) ∙ ap (λ x. m / x) (sym (pow-succ' 2 i)))
 
 low_in : (t : Tab) → All (λ c. c < length (blank t.last)) (occurring t.last t.clauses)
@@ -143,12 +143,12 @@ number_agrees q (c ∷ cs) p h up low d stands =
     elim (has_cases c cs d stands) [
       | inl same ↦
           subst (λ x. get_or (numbered m (c ∷ cs) p) x 0 ≡ get_or q x 0) same
-          (get_or-set_same (numbered (m / 2) cs p) c (m % 2) 0 (omega (arith, low.0, length_numbered (m / 2) cs p)) ∙ bit)
+          (get_or-set_same (numbered (m / 2) cs p) c (m % 2) 0 (omega (arith, All-head (λ x. x < length p) c cs low, length_numbered (m / 2) cs p)) ∙ bit)
       | inr later ↦
           let above = All-contains (λ x. c < x) cs d up.0 later in
           get_or-set_other (numbered (m / 2) cs p) c d (m % 2) 0 (λ e. omega arith)
           ∙ ap (λ x. get_or (numbered x cs p) d 0) rest
-          ∙ number_agrees q cs p h up.1 low.1 d later
+          ∙ number_agrees q cs p h up.1 (All-tail (λ x. x < length p) c cs low) d later
     ]
 
 -- plans that agree on the choices that occur make the same clauses true

@@ -1,7 +1,7 @@
 -- Tests over joined lists, what a test over a list says of its elements, and the first element that passes one.
 use Rattle.std.proofs.Common.{◌≡◌, ℕ, zero, suc, ◌+◌, ◌<◌, Bool, true, false, cond, not, ◌&&◌, ◌||◌, eqb, ◌↔◌, List, [], ◌∷◌, ◌++◌, length, get_or, Some, None, Decides, All, Contains, count_by, refl, ap, ◌∙◌, subst, inl, inr, arith}
 use Rattle.std.specs.List.{HoldsAt}
-use Rattle.std.proofs.lemmas.List.Elements.{All-get_or, Contains-get_or}
+use Rattle.std.proofs.lemmas.List.Elements.{All-get_or, Contains-get_or, Decides-contains}
 use Rattle.std.proofs.lemmas.List.Sums.{sum_by-cons}
 use Rattle.std.proofs.lemmas.Bool.Decides.{nat_tests, Decides-by_and, Decides-by_or, Decides-eqb}
 use Rattle.std.proofs.lemmas.Bool.{and_parts, and_from, or_from, cases_Bool, both_ways}
@@ -150,4 +150,5 @@ module _ {X : Type 0} where
 
 -- a number stands in a list exactly if it stands at some place
 pub decides_has : (x : ℕ) (ys : List ℕ) → Decides (has x ys) (Contains ys x)
-decides_has x ys = Decides-by_or (λ y. eqb y x) (λ y. y ≡ x) (has x) (λ y. Decides-eqb y x) refl (λ _ _. refl) ys
+decides_has x ys =
+    Decides-contains ys x (has x ys) (Decides-by_or (λ y. eqb y x) (λ y. y ≡ x) (has x) (λ y. Decides-eqb y x) refl (λ _ _. refl) ys)

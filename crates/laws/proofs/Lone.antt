@@ -1,6 +1,6 @@
 -- Lone: its steps are safe, and at its end no clause of one literal is left.
-use Rattle.std.proofs.Common.{◌≡◌, ℕ, zero, suc, ◌<◌, true, List, [], ◌∷◌, length, get_or, Some, None, Contains, sym, refl, ap, ◌∙◌, subst, inl, inr, arith}
-use Rattle.std.proofs.lemmas.List.Elements.{Contains-get_or}
+use Rattle.std.proofs.Common.{◌≡◌, ◌≢◌, ℕ, zero, suc, ◌<◌, true, List, [], ◌∷◌, length, get_or, Some, None, Contains, sym, refl, ap, ◌∙◌, subst, inl, inr, arith}
+use Rattle.std.proofs.lemmas.List.Elements.{All-nil, All-cons, Contains-get_or}
 use Rattle.std.proofs.lemmas.Bool.Decides.{nat_tests}
 use Rattle.laws.specs.Clauses.{true_in, all_true}
 use Rattle.laws.specs.Literals.{holds}
@@ -68,10 +68,10 @@ lone_holds Cs w p stands h = sym (or_false (holds p w)) ∙ every_at (true_in p)
 
 -- none is found only if no clause has just one literal
 lone_none : (Cs : List (List ℕ)) → lone_in Cs ≡ None → NoLone Cs
-lone_none [] h = tt
+lone_none [] h = All-nil (λ C. length C ≢ 1)
 lone_none (C ∷ Cs) h =
     let both = or_else_none (single C) (lone_in Cs) h in
-    (single_none C both.0, lone_none Cs both.1)
+    All-cons (λ C. length C ≢ 1) C Cs (single_none C both.0) (lone_none Cs both.1)
 
 -- setting a literal that stands alone in a clause is a good step
 good_step : (t : Tab) (w : ℕ) → Lawful t → Contains t.clauses (w ∷ []) → GoodStep lone t w (with_set w t)

@@ -1,4 +1,5 @@
 -- Piles: a layer over a solver is a solver, and so is a pile, whose answer is its bottom's, brought up.
+use Rattle.std.proofs.lemmas.List.Elements.{All-head, All-tail}
 use Rattle.std.proofs.Common.{◌≡◌, ℕ, suc, ◌+◌, min, ◌↔◌, List, [], ◌∷◌, length, All, sym, refl, ap, ◌∙◌, subst, arith}
 use mathlib.Core.Logic.Iff
 use Rattle.laws.specs.declared.fault.Fault.{Fault}
@@ -111,8 +112,8 @@ pile_of [] bottom shows solves t ok =
       some_refusal = (λ h. h, λ h. h);
     }
 pile_of (r ∷ rs) bottom shows solves t ok =
-    let shown = shows.0 t ok in
-    let rest = pile_of rs bottom shows.1 solves (r.smaller t) shown.table in
+    let shown = All-head Reduces r rs shows t ok in
+    let rest = pile_of rs bottom (All-tail Reduces r rs shows) solves (r.smaller t) shown.table in
     let low = piled rs bottom (r.smaller t) in
     record {
       table = rest.table;

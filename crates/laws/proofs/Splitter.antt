@@ -1,6 +1,6 @@
 -- The splitter: its search exists, is unique, and finds a plan exactly if there is one.
 use Rattle.std.proofs.Common.{◌≡◌, ℕ, zero, suc, ◌+◌, ◌<◌, ◌≤◌, true, false, eqb, ltb, leb, ◌↔◌, List, [], ◌∷◌, length, get_or, replicate, Some, None, All, Contains, Option, sym, refl, ap, ◌∙◌, subst, inl, inr, arith}
-use Rattle.std.proofs.lemmas.List.Elements.{Contains-get_or}
+use Rattle.std.proofs.lemmas.List.Elements.{All-nil, All-cons, Contains-get_or}
 use Rattle.std.proofs.lemmas.List.{length-replicate}
 use Rattle.std.proofs.lemmas.Bool.{cases_Bool, cases_lt, cond_both, cond-true, cond-false, both_ways, eqb-true, ltb-true, ltb-false, le-leb, lt-leb, not_from_false}
 use Rattle.laws.specs.declared.fault.Fault.{Fault}
@@ -312,8 +312,8 @@ Right t (plan p k) = PlanOf t.last p × (all_true p t.clauses ≡ true)
 Right t (none k) = Possible t → ⊥
 
 zero_bytes : (k : ℕ) → All (λ b. b ≤ 1) (replicate k 0)
-zero_bytes zero = tt
-zero_bytes (suc k) = (omega arith, zero_bytes k)
+zero_bytes zero = All-nil (λ b. b ≤ 1)
+zero_bytes (suc k) = All-cons (λ b. b ≤ 1) 0 (replicate k 0) (omega arith) (zero_bytes k)
 
 -- the plan that leaves out every choice is a plan
 pub blank_plan : (n : ℕ) → PlanOf n (blank n)

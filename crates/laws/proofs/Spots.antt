@@ -21,7 +21,7 @@ module _ (f : List ℕ → ℕ → Bool) where
   first_literal C l e =
       let (j, is, at) = first_at (f C) 0 C l e in
       record {
-        stands = (j, at.inside, λ d. get_or_default C j d 0 at.inside ∙ is);
+        stands = (j, at.inside, get_or_default C j l 0 at.inside ∙ is);
         passes = subst (λ k. f C k ≡ true) is at.here;
         earlier = at.before;
       }

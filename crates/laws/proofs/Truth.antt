@@ -1,6 +1,6 @@
 -- What a plan makes true, in the subject's words.
 use Rattle.std.proofs.Common.{◌≡◌, ℕ, ◌%◌, true, eqb, List, get_or, Decides, Contains, sym, refl, ap, subst, inl, inr, arith}
-use Rattle.std.proofs.lemmas.List.Elements.{Contains-get_or}
+use Rattle.std.proofs.lemmas.List.Elements.{Contains-get_or, at_from_Contains}
 use Rattle.std.proofs.lemmas.Bool.{cases_Bool, eqb-true, eqb-false}
 use Rattle.std.proofs.lemmas.Bool.Decides.{nat_tests, Decides-by_and, Decides-by_or, Decides-like}
 use Rattle.laws.specs.Literals.{choice, holds, Agrees}
@@ -39,7 +39,9 @@ module _ (p : List ℕ) where
   decides_true C =
       Decides-like (true_in p C)
       (λ k. (get_or C k.0 0, Contains-get_or C k.0 0 k.1, k.2 0))
-      (λ l. (l.1.0, l.1.1, λ d. subst (Agrees p) (sym (l.1.2 d)) l.2))
+      (λ l.
+        let at = at_from_Contains C l.0 l.1 in
+        (at.0, at.1, λ d. subst (Agrees p) (sym (at.2 d)) l.2))
       (Decides-by_or (holds p) (Agrees p) (true_in p) decides_holds refl (λ _ _. refl) C)
 
 pub truth : Truth

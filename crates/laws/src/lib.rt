@@ -1,4 +1,6 @@
 // What choices, literals, clauses, plans, tables and faults are, and the laws that everything else stands on.
+#![tactic(auto)]
+
 mod fault;
 mod stands;
 

@@ -1,4 +1,6 @@
 // Reductions, solvers and piles: the traits by which each shows what it owes, the layer, and the repeated rule.
+#![tactic(auto)]
+
 mod answer;
 mod checks;
 mod layer;

@@ -1,4 +1,6 @@
 // What reductions and solvers ask of clauses and of a table; nothing is changed.
+#![tactic(auto)]
+
 mod blocked;
 mod codes;
 mod lone;

@@ -1,4 +1,6 @@
 // The sheet file, record by record and as a whole, and the answer record.
+#![tactic(auto)]
+
 mod answer;
 mod checks;
 mod decode;

@@ -1,4 +1,6 @@
 // Resolvents of clauses: what two clauses that disagree on a choice say together without it.
+#![tactic(auto)]
+
 mod all;
 mod pair;
 mod sizes;

@@ -1,4 +1,6 @@
 // Lawful clause tables: what they take, what they hold, and whether a plan keeps them.
+#![tactic(auto)]
+
 mod checks;
 mod clause;
 mod error;

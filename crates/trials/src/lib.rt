@@ -1,4 +1,6 @@
 // Many cases against the library: edges of tables, files cut at every byte, answer records, audits.
+#![tactic(auto)]
+
 #[cfg(test)]
 mod answers;
 #[cfg(test)]

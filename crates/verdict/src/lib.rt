@@ -1,4 +1,6 @@
 // Holds a plan against a sheet file, clause by clause and pin by pin, and says so in plain words.
+#![tactic(auto)]
+
 mod failure;
 mod hour;
 mod load;

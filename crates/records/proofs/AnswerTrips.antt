@@ -3,6 +3,7 @@ use Rattle.std.proofs.Common.{◌≡◌, ℕ, ◌+◌, ◌*◌, ◌/◌, ◌%◌
 use native.Mathlib.Nat.{div-div-eq-div-mul}
 use Rattle.std.specs.Option.{option_map}
 use Rattle.std.proofs.lemmas.List.{drop_all}
+use Rattle.std.proofs.lemmas.List.Elements.{All-drop}
 use Rattle.std.proofs.lemmas.Bool.{ltb-true, ltb-false, leb-true, lt-ltb, le-ltb, le-leb, and_from, and_parts}
 use Rattle.std.proofs.lemmas.Bool.Decides.{nat_tests}
 use Rattle.laws.specs.Outcomes.{Outcome, planned, never, refused}
@@ -117,7 +118,11 @@ four_exact (x ∷ []) h a = absurd (omega arith)
 four_exact (x ∷ y ∷ []) h a = absurd (omega arith)
 four_exact (x ∷ y ∷ z ∷ []) h a = absurd (omega arith)
 four_exact (x ∷ y ∷ z ∷ w ∷ bs) h a =
-    (omega arith, ap (λ (l : List ℕ). l ++ bs) (four_forth x y z w a.0 a.1.0 a.1.1.0 a.1.1.1.0))
+    let at_x : x < 256 = a 0 0 (omega arith) in
+    let at_y : y < 256 = a 1 0 (omega arith) in
+    let at_z : z < 256 = a 2 0 (omega arith) in
+    let at_w : w < 256 = a 3 0 (omega arith) in
+    (omega arith, ap (λ (l : List ℕ). l ++ bs) (four_forth x y z w at_x at_y at_z at_w))
 
 -- seven bytes are those of the fault that they stand for
 seven_exact : (bs : List ℕ)
@@ -130,17 +135,22 @@ seven_exact (x ∷ y ∷ z ∷ p ∷ []) h a = absurd (omega arith)
 seven_exact (x ∷ y ∷ z ∷ p ∷ q ∷ []) h a = absurd (omega arith)
 seven_exact (x ∷ y ∷ z ∷ p ∷ q ∷ r ∷ []) h a = absurd (omega arith)
 seven_exact (x ∷ y ∷ z ∷ p ∷ q ∷ r ∷ s ∷ (w ∷ bs)) h a = absurd (omega arith)
-seven_exact (x ∷ y ∷ z ∷ p ∷ q ∷ r ∷ s ∷ []) h a = (
-  record {
-    layer_fits = a.0;
-    depth_fits = a.1.0;
-    number_fits = a.1.1.0;
-    place_fits = omega arith;
-    offset_fits = omega arith;
-  },
-  ap (λ (l : List ℕ). x ∷ y ∷ z ∷ (l ++ in_two (r * 256 + s))) (two_forth p q a.1.1.1.0 a.1.1.1.1.0)
-      ∙ ap (λ (l : List ℕ). x ∷ y ∷ z ∷ p ∷ q ∷ l) (two_forth r s a.1.1.1.1.1.0 a.1.1.1.1.1.1.0),
-)
+seven_exact (x ∷ y ∷ z ∷ p ∷ q ∷ r ∷ s ∷ []) h a =
+    let at_p : p < 256 = a 3 0 (omega arith) in
+    let at_q : q < 256 = a 4 0 (omega arith) in
+    let at_r : r < 256 = a 5 0 (omega arith) in
+    let at_s : s < 256 = a 6 0 (omega arith) in
+    (
+      record {
+        layer_fits = a 0 0 (omega arith);
+        depth_fits = a 1 0 (omega arith);
+        number_fits = a 2 0 (omega arith);
+        place_fits = omega arith;
+        offset_fits = omega arith;
+      },
+      ap (λ (l : List ℕ). x ∷ y ∷ z ∷ (l ++ in_two (r * 256 + s))) (two_forth p q at_p at_q)
+      ∙ ap (λ (l : List ℕ). x ∷ y ∷ z ∷ p ∷ q ∷ l) (two_forth r s at_r at_s),
+    )
 
 -- a plan of 1 to 256 bytes, each 0 or 1, has a record
 unspoilt : (bytes : List ℕ) → 0 < length bytes → length bytes ≤ 256 → stray bytes ≡ None → flaw_of bytes ≡ None
@@ -205,9 +215,9 @@ exact (t ∷ x ∷ y ∷ bs) o a h =
     let n : x * 256 + y ≡ length bs = omega (arith, c.long) in
     let e : framed t bs ≡ t ∷ x ∷ y ∷ bs =
     ap (λ (k : ℕ). t ∷ (in_two k ++ bs)) (sym n)
-    ∙ ap (λ (l : List ℕ). t ∷ (l ++ bs)) (two_forth x y a.1.0 a.1.1.0) in
+    ∙ ap (λ (l : List ℕ). t ∷ (l ++ bs)) (two_forth x y (a 1 0 (omega arith)) (a 2 0 (omega arith))) in
     subst (λ (l : List ℕ). RecordOf l o) e
-    (body_exact t bs o (subst (λ (k : ℕ). head_of t k ≡ Ok tt) n c.head) a.1.1.1 c.body)
+    (body_exact t bs o (subst (λ (k : ℕ). head_of t k ≡ Ok tt) n c.head) (All-drop (λ b. b < 256) 3 (t ∷ x ∷ y ∷ bs) a) c.body)
 
 pub laws : AnswerLaws
 laws =

@@ -34,7 +34,7 @@ pin_bytes high low (x ∷ []) l s a = absurd (omega arith)
 pin_bytes high low (x ∷ y ∷ []) l s a =
     let p : high ≡ 0 = omega arith in
     let q : low ≡ 2 = omega arith in
-    let m = two_forth x y a.0 a.1.0 in
+    let m = two_forth x y (a 0 0 (omega arith)) (a 1 0 (omega arith)) in
     cc
 pin_bytes high low (x ∷ y ∷ z ∷ body) l s a = absurd (omega arith)
 

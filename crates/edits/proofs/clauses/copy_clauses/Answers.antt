@@ -13,7 +13,7 @@ loop-clause-preserved c =
     let out = c.loop-clause.out.items in
     let C = c.clause-item.result in
     let rest = map codes_of (drop (i + 1) xs) in
-    let pushed = map_pushed codes_of out c.push.new.self.items c.in-ok-copied.copied (codes_of C) rest c.in-ok-push.ensures.items c.in-ok-copied.ensures in
+    let pushed = map_pushed codes_of out c.push.new.self.items c.in_ok-copied.copied (codes_of C) rest c.in_ok-push.ensures.items c.in_ok-copied.ensures in
     let more = at_read (λ ds. map codes_of out ++ map codes_of ds) xs i C C c.loop-clause-test.true c.clause-item.is in
     (c.loop-clause.invariant.0, pushed ∙ sym more ∙ c.loop-clause.invariant.1)
 

@@ -17,8 +17,8 @@ loop-i-preserved c =
     let same = simp (length-append, length-map, length-take, length-drop) at (ap length c.loop-i.invariant) in
     let lt : i < length ys = omega (arith, c.args.clauses.now.ok.0) in
     let read : codes_of C ≡ get_or (map codes_of ys) i (codes_of C) = ap codes_of c.index-mut.ensures.value ∙ sym (get_or-map codes_of ys i C (codes_of C) lt) in
-    map-set codes_of ys i (record { codes = c.strip-codes.new.codes })
-    ∙ ap (set (map codes_of ys) i) c.strip-codes.ensures
+    map-set codes_of ys i (record { codes = c.strip_codes.new.codes })
+    ∙ ap (set (map codes_of ys) i) c.strip_codes.ensures
     ∙ map_over_more (strip ws) (map codes_of xs) (map codes_of ys) i (codes_of C) (omega (arith, c.args.clauses.now.ok.0)) c.loop-i.invariant read
 
 pub returns : goal.returns

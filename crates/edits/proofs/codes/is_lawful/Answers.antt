@@ -5,7 +5,7 @@ use Rattle.std.proofs.lemmas.Bool.{and_left, and_right, le-leb, lt-leb}
 use Rattle.laws.specs.Literals.{choice, top}
 use Rattle.edits.proofs.Tests.{lawful_from, lawful_from_none, lawful_from_more}
 use Rattle.edits.proofs.codes.is_lawful.Goals as goal
-use Rattle.edits.proofs.codes.is_lawful.Goals.{then-code-top-via-then-code-top, then-code-top-via-else-code-top+then-choice-of-low}
+use Rattle.edits.proofs.codes.is_lawful.Goals.{then-code-top-via-then-code-top, then-code-top-via-else-code-top+then-choice_of-low}
 
 pub loop-code-init : goal.loop-code-init
 loop-code-init c = lawful_from_none c.args.last c.args.codes.now
@@ -22,8 +22,8 @@ returns-then-code-top c =
     let fails : (leb x (top n) && (leb low (choice x) && rest)) ≡ false =
     elim c.then-code-top.branch [
       | then-code-top-via-then-code-top w ↦ and_left (leb x (top n)) _ (lt-leb x (top n) w.if-code-top.true)
-      | then-code-top-via-else-code-top+then-choice-of-low w ↦
-          and_right (leb x (top n)) _ (and_left (leb low (choice x)) rest (lt-leb low (choice x) (omega (arith, w.choice-of.ensures, w.if-choice-of-low.true))))
+      | then-code-top-via-else-code-top+then-choice_of-low w ↦
+          and_right (leb x (top n)) _ (and_left (leb low (choice x)) rest (lt-leb low (choice x) (omega (arith, w.choice_of.ensures, w.if-choice_of-low.true))))
     ] in
     sym fails ∙ sym more ∙ c.loop-code.invariant
 
@@ -38,7 +38,7 @@ loop-code-preserved c =
     let rest = lawful_from n (choice x + 1) (drop (i + 1) xs) in
     let top-passes = le-leb x (top n) c.if-code-top.false in
     let low-passes = le-leb low (choice x) (omega arith) in
-    ap (λ k. lawful_from n (k + 1) (drop (i + 1) xs)) c.choice-of-low.ensures
+    ap (λ k. lawful_from n (k + 1) (drop (i + 1) xs)) c.choice_of-low.ensures
     ∙ sym (ap (λ b. b && (leb low (choice x) && rest)) top-passes ∙ ap (λ b. b && rest) low-passes) ∙ sym more ∙ c.loop-code.invariant
 
 pub returns : goal.returns

@@ -7,13 +7,13 @@ use Rattle.std.proofs.lemmas.Bool.{or_left}
 use Rattle.table.proofs.Steps.{or_next}
 use Rattle.edits.proofs.codes.meeting.Goals as goal
 
-pub returns-then-stands-in : goal.returns-then-stands-in
-returns-then-stands-in c =
+pub returns-then-stands_in : goal.returns-then-stands_in
+returns-then-stands_in c =
     let xs = c.args.codes.now in
     let ws = c.args.set.now in
     let i = c.loop-code.code-index in
     let more = at_drop_more (meets ws) xs i 0 c.loop-code-test.true in
-    sym (or_left (has (get_or xs i 0) ws) _ (sym c.if-stands-in.ensures)) ∙ sym more ∙ c.loop-code.invariant
+    sym (or_left (has (get_or xs i 0) ws) _ (sym c.if-stands_in.ensures)) ∙ sym more ∙ c.loop-code.invariant
 
 pub loop-code-preserved : goal.loop-code-preserved
 loop-code-preserved c =
@@ -21,7 +21,7 @@ loop-code-preserved c =
     let ws = c.args.set.now in
     let i = c.loop-code.code-index in
     let more = at_drop_more (meets ws) xs i 0 c.loop-code-test.true in
-    sym (or_next (has (get_or xs i 0) ws) _ (sym c.if-stands-in.ensures)) ∙ sym more ∙ c.loop-code.invariant
+    sym (or_next (has (get_or xs i 0) ws) _ (sym c.if-stands_in.ensures)) ∙ sym more ∙ c.loop-code.invariant
 
 pub returns : goal.returns
 returns c =

@@ -17,13 +17,13 @@ passed c =
     let Cs = clauses_of t in
     let D = codes_of c.args.clause in
     let size = ap length c.codes-size.ensures in
-    let one : lawful t.last D ≡ true = ap (lawful t.last) (sym c.codes.ensures) ∙ sym c.is-lawful.ensures ∙ c.if-not-is-lawful.false in
-    let few = lt-ltb (length Cs) 1024 (omega (arith, c.clause-count.ensures)) in
-    let small = le-leb (literals Cs + length D) 8192 (omega (arith, c.literal-count.ensures, size)) in
+    let one : lawful t.last D ≡ true = ap (lawful t.last) (sym c.codes.ensures) ∙ sym c.is_lawful.ensures ∙ c.if-not-is_lawful.false in
+    let few = lt-ltb (length Cs) 1024 (omega (arith, c.clause_count.ensures)) in
+    let small = le-leb (literals Cs + length D) 8192 (omega (arith, c.literal_count.ensures, size)) in
     and_from (lawful t.last D) _ one (and_from (ltb (length Cs) 1024) (leb (literals Cs + length D) 8192) few small)
 
-pub invariant-of-table : goal.invariant-of-table
-invariant-of-table c =
+pub invariant_of-table : goal.invariant_of-table
+invariant_of-table c =
     let t = c.args.table.now in
     let Cs = clauses_of t in
     let D = codes_of c.args.clause in
@@ -36,5 +36,5 @@ invariant-of-table c =
 pub returns : goal.returns
 returns c =
     let t = c.args.table.now in
-    let pushed = codes_pushed true t.clauses.items c.push.new.self.items c.args.clause (codes_of c.args.clause) refl c.in-ok-push.ensures.items in
+    let pushed = codes_pushed true t.clauses.items c.push.new.self.items c.args.clause (codes_of c.args.clause) refl c.in_ok-push.ensures.items in
     record { came = (passed (goal.at.returns c).After-push, ap (λ As. record { last = t.last; clauses = As }) pushed) }

@@ -8,28 +8,28 @@ use Rattle.table.specs.Held.{clauses_of}
 use Rattle.edits.proofs.Alike.{deleted_there}
 use Rattle.edits.proofs.Legal.{legal_table, owed, legal_deleted}
 use Rattle.edits.proofs.removing.delete_at.Goals as goal
-use Rattle.edits.proofs.removing.delete_at.Goals.{After-strip-codes}
+use Rattle.edits.proofs.removing.delete_at.Goals.{After-strip_codes}
 
 -- what the table holds after the deletion
-left : (c : After-strip-codes)
-    → map codes_of (with_item c.args.table.now.clauses c.args.at (record { codes = c.strip-codes.new.codes })).items
+left : (c : After-strip_codes)
+    → map codes_of (with_item c.args.table.now.clauses c.args.at (record { codes = c.strip_codes.new.codes })).items
     ≡ deleted_at c.args.at c.args.code (clauses_of c.args.table.now)
 left c =
     let t = c.args.table.now in
-    deleted_there t.clauses.items c.args.at c.args.code c.negation-of.result c.index-mut.result.now (record { codes = c.strip-codes.new.codes })
-    (omega (arith, t.clauses.ok.0)) c.index-mut.ensures.value c.negation-of.ensures c.strip-codes.ensures
+    deleted_there t.clauses.items c.args.at c.args.code c.negation_of.result c.index-mut.result.now (record { codes = c.strip_codes.new.codes })
+    (omega (arith, t.clauses.ok.0)) c.index-mut.ensures.value c.negation_of.ensures c.strip_codes.ensures
 
-pub invariant-of-table : goal.invariant-of-table
-invariant-of-table c =
+pub invariant_of-table : goal.invariant_of-table
+invariant_of-table c =
     let t = c.args.table.now in
     let long = length-map t.clauses.items codes_of in
-    owed t.last (with_item t.clauses c.args.at (record { codes = c.strip-codes.new.codes })) _ (left (goal.at.invariant-of-table c).After-strip-codes)
+    owed t.last (with_item t.clauses c.args.at (record { codes = c.strip_codes.new.codes })) _ (left (goal.at.invariant_of-table c).After-strip_codes)
     (legal_deleted t.last (clauses_of t) (legal_table t) c.args.at c.args.code (omega (arith, t.clauses.ok.0)))
 
 pub returns-then-at-len : goal.returns-then-at-len
 returns-then-at-len c =
     let t = c.args.table.now in
-    ap (λ Cs. record { last = t.last; clauses = Cs }) (left (goal.at.returns-then-at-len c).After-strip-codes)
+    ap (λ Cs. record { last = t.last; clauses = Cs }) (left (goal.at.returns-then-at-len c).After-strip_codes)
 
 pub returns-else-at-len : goal.returns-else-at-len
 returns-else-at-len c =

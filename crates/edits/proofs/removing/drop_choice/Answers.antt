@@ -8,16 +8,16 @@ use Rattle.table.specs.Held.{clauses_of}
 use Rattle.edits.proofs.Alike.{others_meeting}
 use Rattle.edits.proofs.Legal.{legal_table, owed, legal_kept}
 use Rattle.edits.proofs.removing.drop_choice.Goals as goal
-use Rattle.edits.proofs.removing.drop_choice.Goals.{After-drop-meeting}
+use Rattle.edits.proofs.removing.drop_choice.Goals.{After-drop_meeting}
 
-left : (c : After-drop-meeting) → map codes_of c.drop-meeting.new.clauses.items ≡ others c.args.c (clauses_of c.args.table.now)
-left c = c.drop-meeting.ensures ∙ others_meeting c.args.c (clauses_of c.args.table.now)
+left : (c : After-drop_meeting) → map codes_of c.drop_meeting.new.clauses.items ≡ others c.args.c (clauses_of c.args.table.now)
+left c = c.drop_meeting.ensures ∙ others_meeting c.args.c (clauses_of c.args.table.now)
 
-pub invariant-of-table : goal.invariant-of-table
-invariant-of-table c =
+pub invariant_of-table : goal.invariant_of-table
+invariant_of-table c =
     let t = c.args.table.now in
-    owed t.last c.drop-meeting.new.clauses _ (left c)
+    owed t.last c.drop_meeting.new.clauses _ (left c)
     (legal_kept t.last (clauses_of t) (legal_table t) (λ C. not (any (λ l. eqb (choice l) c.args.c) C)))
 
 pub returns : goal.returns
-returns c = ap (λ Cs. record { last = c.args.table.now.last; clauses = Cs }) (left (goal.at.returns c).After-drop-meeting)
+returns c = ap (λ Cs. record { last = c.args.table.now.last; clauses = Cs }) (left (goal.at.returns c).After-drop_meeting)

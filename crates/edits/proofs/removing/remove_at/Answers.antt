@@ -12,8 +12,8 @@ use Rattle.edits.proofs.removing.remove_at.Goals.{After-remove-gone}
 left : (c : After-remove-gone) → map codes_of c.remove-gone.new.self.items ≡ remove (clauses_of c.args.table.now) c.args.at
 left c = ap (map codes_of) c.remove-gone.ensures.items ∙ map_removed codes_of c.args.table.now.clauses.items c.args.at
 
-pub invariant-of-table : goal.invariant-of-table
-invariant-of-table c =
+pub invariant_of-table : goal.invariant_of-table
+invariant_of-table c =
     let t = c.args.table.now in
     owed t.last c.remove-gone.new.self _ (left c) (legal_removed t.last (clauses_of t) (legal_table t) c.args.at)
 

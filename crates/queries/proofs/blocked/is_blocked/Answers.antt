@@ -18,21 +18,21 @@ loop-clause-init c =
     every_map codes_of (lets C c.args.code) c.deref-clause-items.result.now
     ∙ ap (λ ds. blocks (map codes_of ds) C c.args.code) c.deref-clause-items.ensures.value
 
-pub returns-then-not-lets-block : goal.returns-then-not-lets-block
-returns-then-not-lets-block c =
+pub returns-then-not-lets_block : goal.returns-then-not-lets_block
+returns-then-not-lets_block c =
     let D = c.clause-item.result in
     let f = lets c.args.codes.now c.args.code in
-    let is : c.lets-block.result ≡ f c.codes.result.now = c.lets-block.ensures in
+    let is : c.lets_block.result ≡ f c.codes.result.now = c.lets_block.ensures in
     every_here c.deref-clause-items.result.now c.loop-clause.clause-index D D c.loop-clause-test.true c.clause-item.is
-    (λ E. f (codes_of E)) _ c.loop-clause.invariant (ap f (sym c.codes.ensures) ∙ sym is ∙ c.if-not-lets-block.true)
+    (λ E. f (codes_of E)) _ c.loop-clause.invariant (ap f (sym c.codes.ensures) ∙ sym is ∙ c.if-not-lets_block.true)
 
 pub loop-clause-preserved : goal.loop-clause-preserved
 loop-clause-preserved c =
     let D = c.clause-item.result in
     let f = lets c.args.codes.now c.args.code in
-    let is : c.lets-block.result ≡ f c.codes.result.now = c.lets-block.ensures in
+    let is : c.lets_block.result ≡ f c.codes.result.now = c.lets_block.ensures in
     every_later c.deref-clause-items.result.now c.loop-clause.clause-index D D c.loop-clause-test.true c.clause-item.is
-    (λ E. f (codes_of E)) _ c.loop-clause.invariant (ap f (sym c.codes.ensures) ∙ sym is ∙ c.if-not-lets-block.false)
+    (λ E. f (codes_of E)) _ c.loop-clause.invariant (ap f (sym c.codes.ensures) ∙ sym is ∙ c.if-not-lets_block.false)
 
 pub returns : goal.returns
 returns c =

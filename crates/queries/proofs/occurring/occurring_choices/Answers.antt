@@ -6,7 +6,7 @@ use Rattle.laws.specs.Tables.{occurs_in}
 use Rattle.table.specs.Held.{clauses_of}
 use Rattle.queries.proofs.Turns.{kept_start, kept_turn, kept_end}
 use Rattle.queries.proofs.occurring.occurring_choices.Goals as goal
-use Rattle.queries.proofs.occurring.occurring_choices.Goals.{then-occurs+in-ok-push, else-occurs}
+use Rattle.queries.proofs.occurring.occurring_choices.Goals.{then-occurs+in_ok-push, else-occurs}
 
 pub loop-c-init : goal.loop-c-init
 loop-c-init c =
@@ -23,8 +23,8 @@ loop-c-preserved c =
     let out = vec_items c.loop-c.out in
     let turn = λ (b : Bool) (e : f i ≡ b). ap (λ xs. out ++ xs) (sym (kept_turn f i t.last b (omega (arith, c.loop-c-test.true)) e)) ∙ c.loop-c.invariant in
     elim c.if-occurs.branch [
-      | then-occurs+in-ok-push w ↦
-          let items : vec_items w.push.new.self ≡ out ++ i ∷ [] = w.in-ok-push.ensures.items in
+      | then-occurs+in_ok-push w ↦
+          let items : vec_items w.push.new.self ≡ out ++ i ∷ [] = w.in_ok-push.ensures.items in
           ap (λ v. vec_items v ++ rest) w.out-is ∙ ap (λ xs. xs ++ rest) items ∙ append_assoc out (i ∷ []) rest ∙ turn true (sym c.occurs.ensures ∙ w.if-occurs.true)
       | else-occurs w ↦ ap (λ v. vec_items v ++ rest) w.out-is ∙ turn false (sym c.occurs.ensures ∙ w.if-occurs.false)
     ]

@@ -13,21 +13,21 @@ loop-clause-init c =
     any_map codes_of (shortens C c.args.code) c.deref-clause-items.result.now
     ∙ ap (λ ds. trims (map codes_of ds) C c.args.code) c.deref-clause-items.ensures.value
 
-pub returns-then-is-shortened : goal.returns-then-is-shortened
-returns-then-is-shortened c =
+pub returns-then-is_shortened : goal.returns-then-is_shortened
+returns-then-is_shortened c =
     let D = c.clause-item.result in
     let f = shortens c.args.codes.now c.args.code in
-    let is : c.is-shortened.result ≡ f c.codes.result.now = c.is-shortened.ensures in
+    let is : c.is_shortened.result ≡ f c.codes.result.now = c.is_shortened.ensures in
     any_here c.deref-clause-items.result.now c.loop-clause.clause-index D D c.loop-clause-test.true c.clause-item.is
-    (λ E. f (codes_of E)) _ c.loop-clause.invariant (ap f (sym c.codes.ensures) ∙ sym is ∙ c.if-is-shortened.true)
+    (λ E. f (codes_of E)) _ c.loop-clause.invariant (ap f (sym c.codes.ensures) ∙ sym is ∙ c.if-is_shortened.true)
 
 pub loop-clause-preserved : goal.loop-clause-preserved
 loop-clause-preserved c =
     let D = c.clause-item.result in
     let f = shortens c.args.codes.now c.args.code in
-    let is : c.is-shortened.result ≡ f c.codes.result.now = c.is-shortened.ensures in
+    let is : c.is_shortened.result ≡ f c.codes.result.now = c.is_shortened.ensures in
     any_later c.deref-clause-items.result.now c.loop-clause.clause-index D D c.loop-clause-test.true c.clause-item.is
-    (λ E. f (codes_of E)) _ c.loop-clause.invariant (ap f (sym c.codes.ensures) ∙ sym is ∙ c.if-is-shortened.false)
+    (λ E. f (codes_of E)) _ c.loop-clause.invariant (ap f (sym c.codes.ensures) ∙ sym is ∙ c.if-is_shortened.false)
 
 pub returns : goal.returns
 returns c =

@@ -8,6 +8,6 @@ returns c =
     record {
       after =
           put_mid-paste c.args.start _ c.args.out.now _ c.args.bytes.now (length c.args.bytes.now)
-          c.copy-from-slice.ensures.after (omega arith) refl
+          c.copy_from_slice.ensures.after (omega arith) refl
           ∙ paste_all c.args.out.now c.args.start c.args.bytes.now (length c.args.bytes.now) refl;
     }

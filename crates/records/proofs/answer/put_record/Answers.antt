@@ -5,7 +5,7 @@ pub returns : goal.returns
 returns c =
     record {
       after =
-          over_framed c.args.out.now c.put-bytes.new.out c.put-bytes-2.new.out c.put-bytes-3.new.out c.args.tag
-          c.to-be-bytes.result c.args.first.now c.args.rest.now c.to-be-bytes.ensures
-          c.put-bytes.ensures.after c.put-bytes-2.ensures.after c.put-bytes-3.ensures.after;
+          over_framed c.args.out.now c.put_bytes.new.out c.put_bytes-2.new.out c.put_bytes-3.new.out c.args.tag
+          c.to_be_bytes.result c.args.first.now c.args.rest.now c.to_be_bytes.ensures
+          c.put_bytes.ensures.after c.put_bytes-2.ensures.after c.put_bytes-3.ensures.after;
     }

@@ -31,7 +31,7 @@ returns-in-Some c =
 
 pub returns-in-None : goal.returns-in-None
 returns-in-None c =
-    rw c.from-be-bytes-work.ensures
+    rw c.from_be_bytes-work.ensures
     (record {
       value =
           plan_is c.args.tag c.args.body.now _ c.requires c.if-tag-eq-NONE.false c.if-tag-eq-REFUSAL.false

@@ -6,7 +6,7 @@ use Rattle.records.proofs.decode.codes.Goals as goal
 pub loop-i-preserved : goal.loop-i-preserved
 loop-i-preserved c = (
   omega arith,
-  words_push c.args.bytes.now (vec_items c.loop-i.all) _ c.loop-i.i _ c.loop-i-test.true c.joined.ensures c.in-ok-push.ensures.items c.loop-i.invariant.1,
+  words_push c.args.bytes.now (vec_items c.loop-i.all) _ c.loop-i.i _ c.loop-i-test.true c.joined.ensures c.in_ok-push.ensures.items c.loop-i.invariant.1,
 )
 
 pub returns : goal.returns

@@ -7,7 +7,7 @@ use Rattle.laws.specs.Resolving.{resolvents_of}
 use Rattle.table.specs.Codes.{codes_of}
 use Rattle.resolvents.proofs.Pairs.{with_each, with_turn, pushed_turn}
 use Rattle.resolvents.proofs.all.push_each.Goals as goal
-use Rattle.resolvents.proofs.all.push_each.Goals.{then-stands-in+in-ok-push-resolvent, else-stands-in}
+use Rattle.resolvents.proofs.all.push_each.Goals.{then-stands_in+in_ok-push_resolvent, else-stands_in}
 
 pub loop-second-init : goal.loop-second-init
 loop-second-init c =
@@ -21,17 +21,17 @@ loop-second-preserved c =
     let C = c.args.first.now in
     let out = map codes_of (vec_items c.loop-second.out) in
     let one = resolvents_of c.args.c C (codes_of D ∷ []) in
-    let is : has (leaving c.args.c) (codes_of D) ≡ c.stands-in.result = ap (has (leaving c.args.c)) (sym c.codes.ensures) ∙ sym c.stands-in.ensures in
+    let is : has (leaving c.args.c) (codes_of D) ≡ c.stands_in.result = ap (has (leaving c.args.c)) (sym c.codes.ensures) ∙ sym c.stands_in.ensures in
     let turn = λ (b : Bool) (t : has (leaving c.args.c) (codes_of D) ≡ b).
-    pushed_turn out (map codes_of (vec_items c.if-stands-in.out)) (cond b one []) (with_each c.args.c C (drop i xs)) (with_each c.args.c C (drop (i + 1) xs)) _
+    pushed_turn out (map codes_of (vec_items c.if-stands_in.out)) (cond b one []) (with_each c.args.c C (drop i xs)) (with_each c.args.c C (drop (i + 1) xs)) _
     (with_turn c.args.c xs i D c.loop-second-test.true c.second-item.is C b t) c.loop-second.invariant in
-    elim c.if-stands-in.branch [
-      | then-stands-in+in-ok-push-resolvent w ↦
-          let after : map codes_of (vec_items w.push-resolvent.new.out) ≡ out ++ resolvents_of c.args.c C (w.codes-then-stands-in.result.now ∷ []) = w.in-ok-push-resolvent.ensures in
-          turn true (is ∙ w.if-stands-in.true)
+    elim c.if-stands_in.branch [
+      | then-stands_in+in_ok-push_resolvent w ↦
+          let after : map codes_of (vec_items w.push_resolvent.new.out) ≡ out ++ resolvents_of c.args.c C (w.codes-then-stands_in.result.now ∷ []) = w.in_ok-push_resolvent.ensures in
+          turn true (is ∙ w.if-stands_in.true)
           (ap (λ v. map codes_of (vec_items v)) w.out-is ∙ after
-          ∙ ap (λ E. out ++ resolvents_of c.args.c C (E ∷ [])) w.codes-then-stands-in.ensures)
-      | else-stands-in w ↦ turn false (is ∙ w.if-stands-in.false) (ap (λ v. map codes_of (vec_items v)) w.out-is ∙ sym (append-nil out))
+          ∙ ap (λ E. out ++ resolvents_of c.args.c C (E ∷ [])) w.codes-then-stands_in.ensures)
+      | else-stands_in w ↦ turn false (is ∙ w.if-stands_in.false) (ap (λ v. map codes_of (vec_items v)) w.out-is ∙ sym (append-nil out))
     ]
 
 pub returns : goal.returns

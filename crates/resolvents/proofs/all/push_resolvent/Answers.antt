@@ -19,8 +19,8 @@ returns c =
     let out = vec_items c.args.out.now in
     let C = c.args.first.now in
     let D = c.args.second.now in
-    let made : codes_of c.in-ok-clause.clause ≡ resolvent c.args.c C D = c.in-ok-clause.ensures in
-    let items : vec_items c.push.new.self ≡ out ++ c.in-ok-clause.clause ∷ [] = c.in-ok-push.ensures.items in
-    ap (map codes_of) items ∙ map_push codes_of out c.in-ok-clause.clause
+    let made : codes_of c.in_ok-clause.clause ≡ resolvent c.args.c C D = c.in_ok-clause.ensures in
+    let items : vec_items c.push.new.self ≡ out ++ c.in_ok-clause.clause ∷ [] = c.in_ok-push.ensures.items in
+    ap (map codes_of) items ∙ map_push codes_of out c.in_ok-clause.clause
     ∙ ap (λ E. map codes_of out ++ E ∷ []) made
     ∙ ap (λ xs. map codes_of out ++ xs) (sym (cond-false (clash c.args.c C D) [] (resolvent c.args.c C D ∷ []) (sym c.clashes.ensures ∙ c.if-clashes.false)))

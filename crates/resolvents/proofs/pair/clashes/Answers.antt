@@ -6,20 +6,20 @@ use Rattle.std.proofs.lemmas.List.{at_drop_all}
 use Rattle.std.proofs.lemmas.Bool.{eq-eqb, ne_eqb, and_from, and_left, and_right, not_from_true, not_from_false}
 use Rattle.queries.proofs.Turns.{any_here, any_later}
 use Rattle.resolvents.proofs.pair.clashes.Goals as goal
-use Rattle.resolvents.proofs.pair.clashes.Goals.{else-choice-of-c-via-then-choice-of-c+else-stands-in, else-choice-of-c-via-else-choice-of-c}
+use Rattle.resolvents.proofs.pair.clashes.Goals.{else-choice_of-c-via-then-choice_of-c+else-stands_in, else-choice_of-c-via-else-choice_of-c}
 
 -- what is asked of each code
 abbrev asks : ℕ → List ℕ → ℕ → Bool
 asks c C l = not (eqb (choice l) c) && has (neg l) C
 
-pub returns-then-stands-in : goal.returns-then-stands-in
-returns-then-stands-in c =
+pub returns-then-stands_in : goal.returns-then-stands_in
+returns-then-stands_in c =
     let xs = c.args.second.now in
     let i = c.loop-x.x-index in
     let C = c.args.first.now in
     any_here xs i (get_or xs i 0) 0 c.loop-x-test.true refl (asks c.args.c C) _ c.loop-x.invariant
-    (and_from (not (eqb (choice (get_or xs i 0)) c.args.c)) (has (neg (get_or xs i 0)) C) (not_from_false _ (ne_eqb _ _ (λ e. c.if-choice-of-c.true (c.choice-of.ensures ∙ e))))
-    (ap (λ l. has l C) (sym c.negation-of.ensures) ∙ sym c.stands-in.ensures ∙ c.if-stands-in.true))
+    (and_from (not (eqb (choice (get_or xs i 0)) c.args.c)) (has (neg (get_or xs i 0)) C) (not_from_false _ (ne_eqb _ _ (λ e. c.if-choice_of-c.true (c.choice_of.ensures ∙ e))))
+    (ap (λ l. has l C) (sym c.negation_of.ensures) ∙ sym c.stands_in.ensures ∙ c.if-stands_in.true))
 
 pub loop-x-preserved : goal.loop-x-preserved
 loop-x-preserved c =
@@ -27,13 +27,13 @@ loop-x-preserved c =
     let i = c.loop-x.x-index in
     let C = c.args.first.now in
     any_later xs i (get_or xs i 0) 0 c.loop-x-test.true refl (asks c.args.c C) _ c.loop-x.invariant
-    (elim c.else-choice-of-c.branch [
-      | else-choice-of-c-via-then-choice-of-c+else-stands-in w ↦
+    (elim c.else-choice_of-c.branch [
+      | else-choice_of-c-via-then-choice_of-c+else-stands_in w ↦
           and_right (not (eqb (choice (get_or xs i 0)) c.args.c)) (has (neg (get_or xs i 0)) C)
-          (ap (λ l. has l C) (sym w.negation-of.ensures) ∙ sym w.stands-in.ensures ∙ w.if-stands-in.false)
-      | else-choice-of-c-via-else-choice-of-c w ↦
+          (ap (λ l. has l C) (sym w.negation_of.ensures) ∙ sym w.stands_in.ensures ∙ w.if-stands_in.false)
+      | else-choice_of-c-via-else-choice_of-c w ↦
           and_left (not (eqb (choice (get_or xs i 0)) c.args.c)) (has (neg (get_or xs i 0)) C)
-          (not_from_true _ (eq-eqb _ _ (sym c.choice-of.ensures ∙ w.if-choice-of-c.false)))
+          (not_from_true _ (eq-eqb _ _ (sym c.choice_of.ensures ∙ w.if-choice_of-c.false)))
     ])
 
 pub returns : goal.returns

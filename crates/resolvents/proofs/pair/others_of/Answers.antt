@@ -6,7 +6,7 @@ use Rattle.laws.specs.Literals.{choice}
 use Rattle.laws.specs.Resolving.{apart}
 use Rattle.queries.proofs.Turns.{kept_here}
 use Rattle.resolvents.proofs.pair.others_of.Goals as goal
-use Rattle.resolvents.proofs.pair.others_of.Goals.{then-choice-of-c+in-ok-push, else-choice-of-c}
+use Rattle.resolvents.proofs.pair.others_of.Goals.{then-choice_of-c+in_ok-push, else-choice_of-c}
 
 pub loop-x-init : goal.loop-x-init
 loop-x-init c = ap (λ xs. xs ++ apart c.args.c c.args.codes.now) c.new-out.ensures.items
@@ -20,13 +20,13 @@ loop-x-preserved c =
     let rest = apart c.args.c (drop (i + 1) xs) in
     let out = vec_items c.loop-x.out in
     let turn = λ (b : Bool) (e : f x ≡ b). ap (λ ys. out ++ ys) (sym (kept_here xs i x 0 c.loop-x-test.true refl f b e)) ∙ c.loop-x.invariant in
-    elim c.if-choice-of-c.branch [
-      | then-choice-of-c+in-ok-push w ↦
-          let items : vec_items w.push.new.self ≡ out ++ x ∷ [] = w.in-ok-push.ensures.items in
+    elim c.if-choice_of-c.branch [
+      | then-choice_of-c+in_ok-push w ↦
+          let items : vec_items w.push.new.self ≡ out ++ x ∷ [] = w.in_ok-push.ensures.items in
           ap (λ v. vec_items v ++ rest) w.out-is ∙ ap (λ ys. ys ++ rest) items ∙ append_assoc out (x ∷ []) rest
-          ∙ turn true (not_from_false _ (ne_eqb _ _ (λ e. w.if-choice-of-c.true (c.choice-of.ensures ∙ e))))
-      | else-choice-of-c w ↦
-          ap (λ v. vec_items v ++ rest) w.out-is ∙ turn false (not_from_true _ (eq-eqb _ _ (sym c.choice-of.ensures ∙ w.if-choice-of-c.false)))
+          ∙ turn true (not_from_false _ (ne_eqb _ _ (λ e. w.if-choice_of-c.true (c.choice_of.ensures ∙ e))))
+      | else-choice_of-c w ↦
+          ap (λ v. vec_items v ++ rest) w.out-is ∙ turn false (not_from_true _ (eq-eqb _ _ (sym c.choice_of.ensures ∙ w.if-choice_of-c.false)))
     ]
 
 pub returns : goal.returns

@@ -6,7 +6,7 @@ use Rattle.laws.specs.Lists.{has}
 use Rattle.laws.specs.Literals.{choice}
 use Rattle.queries.proofs.Turns.{count_turn}
 use Rattle.resolvents.proofs.sizes.added_len.Goals as goal
-use Rattle.resolvents.proofs.sizes.added_len.Goals.{then-choice-of-c+then-not-stands-in, else-choice-of-c, else-choice-of-c-via-then-choice-of-c+else-not-stands-in, else-choice-of-c-via-else-choice-of-c}
+use Rattle.resolvents.proofs.sizes.added_len.Goals.{then-choice_of-c+then-not-stands_in, else-choice_of-c, else-choice_of-c-via-then-choice_of-c+else-not-stands_in, else-choice_of-c-via-else-choice_of-c}
 
 pub loop-x-init : goal.loop-x-init
 loop-x-init c = (omega arith, zero-add _)
@@ -20,14 +20,14 @@ loop-x-preserved c =
     let other = not (eqb (choice (get_or xs i 0)) c.args.c) in
     let new = not (has (get_or xs i 0) C) in
     let turn = λ (b : Bool). count_turn xs i (get_or xs i 0) 0 c.loop-x-test.true refl (λ l. not (eqb (choice l) c.args.c) && not (has l C)) b in
-    elim c.if-choice-of-c.branch [
-      | then-choice-of-c+then-not-stands-in w ↦
-          let yes = and_from other new (not_from_false _ (ne_eqb _ _ (λ e. w.if-choice-of-c.true (c.choice-of.ensures ∙ e)))) (not_from_false _ (sym w.stands-in.ensures ∙ w.if-not-stands-in.true)) in
+    elim c.if-choice_of-c.branch [
+      | then-choice_of-c+then-not-stands_in w ↦
+          let yes = and_from other new (not_from_false _ (ne_eqb _ _ (λ e. w.if-choice_of-c.true (c.choice_of.ensures ∙ e)))) (not_from_false _ (sym w.stands_in.ensures ∙ w.if-not-stands_in.true)) in
           (omega (arith, inv.0, w.n-is), omega (arith, turn true yes, inv.1, w.n-is))
-      | else-choice-of-c w ↦
-          let no : (other && new) ≡ false = elim w.else-choice-of-c.branch [
-            | else-choice-of-c-via-then-choice-of-c+else-not-stands-in v ↦ and_right other new (not_from_true _ (sym v.stands-in.ensures ∙ v.if-not-stands-in.false))
-            | else-choice-of-c-via-else-choice-of-c v ↦ and_left other new (not_from_true _ (eq-eqb _ _ (sym c.choice-of.ensures ∙ v.if-choice-of-c.false)))
+      | else-choice_of-c w ↦
+          let no : (other && new) ≡ false = elim w.else-choice_of-c.branch [
+            | else-choice_of-c-via-then-choice_of-c+else-not-stands_in v ↦ and_right other new (not_from_true _ (sym v.stands_in.ensures ∙ v.if-not-stands_in.false))
+            | else-choice_of-c-via-else-choice_of-c v ↦ and_left other new (not_from_true _ (eq-eqb _ _ (sym c.choice_of.ensures ∙ v.if-choice_of-c.false)))
           ] in
           (omega (arith, inv.0, w.n-is), omega (arith, turn false no, inv.1, w.n-is))
     ]

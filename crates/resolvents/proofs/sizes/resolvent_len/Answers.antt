@@ -6,12 +6,12 @@ use Rattle.laws.specs.Literals.{choice}
 use Rattle.resolvents.proofs.Unions.{length_resolvent}
 use Rattle.resolvents.proofs.sizes.resolvent_len.Goals as goal
 
-pub overflow-add-result : goal.overflow-add-result
-overflow-add-result c =
+pub overflow_add-result : goal.overflow_add-result
+overflow_add-result c =
     let C = c.args.first.now in
     let own = count_by-le-length (λ l. not (eqb (choice l) c.args.c)) C in
     let new = count_by-le-length (λ l. not (eqb (choice l) c.args.c) && not (has l C)) c.args.second.now in
-    omega (arith, own, new, c.others-len.ensures, c.added-len.ensures, c.requires.few-first, c.requires.few-second)
+    omega (arith, own, new, c.others_len.ensures, c.added_len.ensures, c.requires.few_first, c.requires.few_second)
 
 pub returns : goal.returns
 returns c =
@@ -20,6 +20,6 @@ returns c =
     let own = count_by-le-length (λ l. not (eqb (choice l) c.args.c)) C in
     let new = count_by-le-length (λ l. not (eqb (choice l) c.args.c) && not (has l C)) D in
     record {
-      value = omega (arith, length_resolvent c.args.c C D c.requires.order, length-filter (λ l. not (eqb (choice l) c.args.c)) C, c.others-len.ensures, c.added-len.ensures);
-      bound = omega (arith, own, new, c.others-len.ensures, c.added-len.ensures, c.requires.few-first, c.requires.few-second);
+      value = omega (arith, length_resolvent c.args.c C D c.requires.order, length-filter (λ l. not (eqb (choice l) c.args.c)) C, c.others_len.ensures, c.added_len.ensures);
+      bound = omega (arith, own, new, c.others_len.ensures, c.added_len.ensures, c.requires.few_first, c.requires.few_second);
     }

@@ -10,15 +10,15 @@ use Rattle.table.specs.Codes.{codes_of}
 use Rattle.queries.proofs.Picked.{read_small, read_ascends}
 use Rattle.resolvents.proofs.Pairs.{with_each, with_turn, length_turn, literals_turn}
 use Rattle.resolvents.proofs.sizes.sizes_with.Goals as goal
-use Rattle.resolvents.proofs.sizes.sizes_with.Goals.{then-stands-in+then-not-clashes, else-stands-in, else-stands-in-via-then-stands-in+else-not-clashes, else-stands-in-via-else-stands-in}
+use Rattle.resolvents.proofs.sizes.sizes_with.Goals.{then-stands_in+then-not-clashes, else-stands_in, else-stands_in-via-then-stands_in+else-not-clashes, else-stands_in-via-else-stands_in}
 
 pub loop-second-init : goal.loop-second-init
 loop-second-init c =
     let all = ap (with_each c.args.c c.args.first.now) c.deref-second-items.ensures.value in
     (omega arith, omega arith, omega (arith, ap length all), omega (arith, ap literals all))
 
-pub resolvent-len-m-requires : goal.resolvent-len-m-requires
-resolvent-len-m-requires c =
+pub resolvent_len-m-requires : goal.resolvent_len-m-requires
+resolvent_len-m-requires c =
     let t = c.args.table.now in
     let xs = c.deref-second-items.result.now in
     let D = c.second-item.result in
@@ -26,17 +26,17 @@ resolvent-len-m-requires c =
     let all = ap (λ ds. literals (map codes_of ds)) c.deref-second-items.ensures.value in
     let each : every (lawful t.last) (map codes_of xs) ≡ true = ap (λ ds. every (lawful t.last) (map codes_of ds)) c.deref-second-items.ensures.value ∙ t.each in
     record {
-      few-first = c.requires;
-      few-second = omega (arith, small, all, t.small, ap length c.codes-codes.ensures);
+      few_first = c.requires;
+      few_second = omega (arith, small, all, t.small, ap length c.codes-codes.ensures);
       order = ap ascends c.codes-codes.ensures ∙ read_ascends xs c.loop-second.second-index D c.loop-second-test.true c.second-item.is t.last each;
     }
 
-pub overflow-add-n : goal.overflow-add-n
-overflow-add-n c = omega (arith, c.loop-second.invariant.0, c.loop-second-test.true, c.deref-second-items.ensures.len, c.args.table.now.few)
+pub overflow_add-n : goal.overflow_add-n
+overflow_add-n c = omega (arith, c.loop-second.invariant.0, c.loop-second-test.true, c.deref-second-items.ensures.len, c.args.table.now.few)
 
-pub overflow-add-m : goal.overflow-add-m
-overflow-add-m c =
-    omega (arith, c.loop-second.invariant.1, c.loop-second-test.true, c.deref-second-items.ensures.len, c.args.table.now.few, c.resolvent-len-m.ensures.bound)
+pub overflow_add-m : goal.overflow_add-m
+overflow_add-m c =
+    omega (arith, c.loop-second.invariant.1, c.loop-second-test.true, c.deref-second-items.ensures.len, c.args.table.now.few, c.resolvent_len-m.ensures.bound)
 
 pub loop-second-preserved : goal.loop-second-preserved
 loop-second-preserved c =
@@ -47,28 +47,28 @@ loop-second-preserved c =
     let C = c.args.first.now in
     let E = c.codes-codes.result.now in
     let one = resolvents_of c.args.c C (codes_of D ∷ []) in
-    let is : has (leaving c.args.c) (codes_of D) ≡ c.stands-in.result = ap (has (leaving c.args.c)) (sym c.codes-codes.ensures) ∙ sym c.stands-in.ensures in
+    let is : has (leaving c.args.c) (codes_of D) ≡ c.stands_in.result = ap (has (leaving c.args.c)) (sym c.codes-codes.ensures) ∙ sym c.stands_in.ensures in
     let same : clash c.args.c C (codes_of D) ≡ clash c.args.c C E = ap (clash c.args.c C) (sym c.codes-codes.ensures) in
     let left = with_each c.args.c C (drop i xs) in
     let rest = with_each c.args.c C (drop (i + 1) xs) in
     let turn = with_turn c.args.c xs i D c.loop-second-test.true c.second-item.is C in
-    elim c.if-stands-in.branch [
-      | then-stands-in+then-not-clashes w ↦
-          let split = turn true (is ∙ w.if-stands-in.true) in
+    elim c.if-stands_in.branch [
+      | then-stands_in+then-not-clashes w ↦
+          let split = turn true (is ∙ w.if-stands_in.true) in
           let new : one ≡ resolvent c.args.c C (codes_of D) ∷ [] = cond-false (clash c.args.c C (codes_of D)) [] (resolvent c.args.c C (codes_of D) ∷ []) (same ∙ sym w.clashes.ensures ∙ w.if-not-clashes.true) in
           let long = ap (λ F. length (resolvent c.args.c C F)) c.codes-codes.ensures in
-          let sized : w.resolvent-len-m.result ≡ length (resolvent c.args.c C E) = w.resolvent-len-m.ensures.value in (
+          let sized : w.resolvent_len-m.result ≡ length (resolvent c.args.c C E) = w.resolvent_len-m.ensures.value in (
             omega (arith, inv.0, w.n-is),
-            omega (arith, inv.1, w.m-is, w.resolvent-len-m.ensures.bound),
+            omega (arith, inv.1, w.m-is, w.resolvent_len-m.ensures.bound),
             omega (arith, inv.2, w.n-is, length_turn left one rest split, ap length new),
             omega (arith, inv.3, w.m-is, literals_turn left one rest split, ap literals new, long, sized),
           )
-      | else-stands-in w ↦
-          let none : left ≡ rest = elim w.else-stands-in.branch [
-            | else-stands-in-via-then-stands-in+else-not-clashes v ↦
-                turn true (is ∙ v.if-stands-in.true)
+      | else-stands_in w ↦
+          let none : left ≡ rest = elim w.else-stands_in.branch [
+            | else-stands_in-via-then-stands_in+else-not-clashes v ↦
+                turn true (is ∙ v.if-stands_in.true)
                 ∙ ap (λ ys. ys ++ rest) (cond-true (clash c.args.c C (codes_of D)) [] (resolvent c.args.c C (codes_of D) ∷ []) (same ∙ sym v.clashes.ensures ∙ v.if-not-clashes.false))
-            | else-stands-in-via-else-stands-in v ↦ turn false (is ∙ v.if-stands-in.false)
+            | else-stands_in-via-else-stands_in v ↦ turn false (is ∙ v.if-stands_in.false)
           ] in (
             omega (arith, inv.0, w.n-is),
             omega (arith, inv.1, w.m-is),

@@ -20,7 +20,7 @@ returns-then-stands c =
     let i = c.loop-i.i in
     found_here (any (λ y. eqb (choice y) (choice (get_or xs i 0))) (take i xs)) _ _ _ _
     (at_drop_more (repeat_from (take i xs) i) xs i 0 c.loop-i-test.true) c.loop-i.invariant
-    (asked xs i c.choice-of.result c.stands.result c.choice-of.ensures c.stands.ensures ∙ c.if-stands.true)
+    (asked xs i c.choice_of.result c.stands.result c.choice_of.ensures c.stands.ensures ∙ c.if-stands.true)
 
 pub loop-i-preserved : goal.loop-i-preserved
 loop-i-preserved c =
@@ -29,7 +29,7 @@ loop-i-preserved c =
     ap (λ seen. repeat_from seen (i + 1) (drop (i + 1) xs)) (take_more xs i 0 c.loop-i-test.true)
     ∙ found_later (any (λ y. eqb (choice y) (choice (get_or xs i 0))) (take i xs)) _ _ _ _
     (at_drop_more (repeat_from (take i xs) i) xs i 0 c.loop-i-test.true) c.loop-i.invariant
-    (asked xs i c.choice-of.result c.stands.result c.choice-of.ensures c.stands.ensures ∙ c.if-stands.false)
+    (asked xs i c.choice_of.result c.stands.result c.choice_of.ensures c.stands.ensures ∙ c.if-stands.false)
 
 pub returns : goal.returns
 returns c =

@@ -7,19 +7,19 @@ use Rattle.std.proofs.lemmas.Bool.{eq-eqb, ne_eqb, or_left}
 use Rattle.table.proofs.Steps.{or_next}
 use Rattle.table.proofs.clause.stands.Goals as goal
 
-pub returns-then-choice-of-c : goal.returns-then-choice-of-c
-returns-then-choice-of-c c =
+pub returns-then-choice_of-c : goal.returns-then-choice_of-c
+returns-then-choice_of-c c =
     let xs = c.args.codes.now in
     let i = c.loop-code.code-index in
     let more = at_drop_more (any (λ l. eqb (choice l) c.args.c)) xs i 0 c.loop-code-test.true in
-    sym (or_left (eqb (choice (get_or xs i 0)) c.args.c) _ (eq-eqb _ _ (sym c.choice-of.ensures ∙ c.if-choice-of-c.true))) ∙ sym more ∙ c.loop-code.invariant
+    sym (or_left (eqb (choice (get_or xs i 0)) c.args.c) _ (eq-eqb _ _ (sym c.choice_of.ensures ∙ c.if-choice_of-c.true))) ∙ sym more ∙ c.loop-code.invariant
 
 pub loop-code-preserved : goal.loop-code-preserved
 loop-code-preserved c =
     let xs = c.args.codes.now in
     let i = c.loop-code.code-index in
     let more = at_drop_more (any (λ l. eqb (choice l) c.args.c)) xs i 0 c.loop-code-test.true in
-    sym (or_next (eqb (choice (get_or xs i 0)) c.args.c) _ (ne_eqb _ _ (λ e. c.if-choice-of-c.false (c.choice-of.ensures ∙ e)))) ∙ sym more ∙ c.loop-code.invariant
+    sym (or_next (eqb (choice (get_or xs i 0)) c.args.c) _ (ne_eqb _ _ (λ e. c.if-choice_of-c.false (c.choice_of.ensures ∙ e)))) ∙ sym more ∙ c.loop-code.invariant
 
 pub returns : goal.returns
 returns c = sym (at_drop_all (any (λ l. eqb (choice l) c.args.c)) c.args.codes.now c.loop-code.code-index c.loop-code-test.false) ∙ c.loop-code.invariant

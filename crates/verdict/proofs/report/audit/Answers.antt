@@ -7,15 +7,15 @@ use Rattle.verdict.proofs.report.audit.Goals as goal
 
 pub returns : goal.returns
 returns c =
-    let h = asked_of c.in-ok-hour.hour in
-    let o = answer_of c.in-ok-found.found in
-    let held = sym c.in-ok-verdict.ensures in
+    let h = asked_of c.in_ok-hour.hour in
+    let o = answer_of c.in_ok-found.found in
+    let held = sym c.in_ok-verdict.ensures in
     record {
       asked = h;
       outcome = o;
-      sheet_read = c.in-ok-hour.ensures;
-      answer_read = sym c.in-ok-found.ensures.value;
+      sheet_read = c.in_ok-hour.ensures;
+      answer_read = sym c.in_ok-found.ensures.value;
       judged = held;
-      keeps = kept_exactly h o c.in-ok-verdict.verdict held;
-      said = c.in-ok-text.ensures;
+      keeps = kept_exactly h o c.in_ok-verdict.verdict held;
+      said = c.in_ok-text.ensures;
     }

@@ -7,9 +7,9 @@ use Rattle.verdict.proofs.text.refusal_lines.Goals as goal
 pub returns : goal.returns
 returns c =
     let f = c.args.fault in
-    let numbers = string_bytes c.in-ok-numbers.numbers in
+    let numbers = string_bytes c.in_ok-numbers.numbers in
     let why = c.meaning-why.result.now in
     made_as c.format.result (numbers ++ (decimal f.number ++ (codes ": " ++ (why ++ codes "\n")))) (refusal_lines f)
-    (ap (λ t. t ++ (decimal f.number ++ (codes ": " ++ (why ++ codes "\n")))) c.in-ok-numbers.ensures
+    (ap (λ t. t ++ (decimal f.number ++ (codes ": " ++ (why ++ codes "\n")))) c.in_ok-numbers.ensures
     ∙ ap (λ t. fault_line f ++ (decimal f.number ++ (codes ": " ++ (t ++ codes "\n")))) c.meaning-why.ensures)
     c.format.ensures.ok

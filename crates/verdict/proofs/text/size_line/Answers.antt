@@ -15,12 +15,12 @@ returns c =
     let m = literals Cs in
     let k = h.clauses.last + 1 in
     let a = c.last.result + 1 in
-    let b = c.clause-count-clauses.result in
-    let l = c.literal-count-literals.result in
-    let p = c.clause-count-pins.result in
+    let b = c.clause_count-clauses.result in
+    let l = c.literal_count-literals.result in
+    let p = c.clause_count-pins.result in
     made_as c.format.result (size_words a b l p) (size_line (asked_of h))
     (ap (λ x. size_words (x + 1) b l p) c.last.ensures.value
-    ∙ ap (λ x. size_words k x l p) c.clause-count-clauses.ensures
-    ∙ ap (λ x. size_words k n x p) c.literal-count-literals.ensures
-    ∙ ap (λ x. size_words k n m x) c.clause-count-pins.ensures)
+    ∙ ap (λ x. size_words k x l p) c.clause_count-clauses.ensures
+    ∙ ap (λ x. size_words k n x p) c.literal_count-literals.ensures
+    ∙ ap (λ x. size_words k n m x) c.clause_count-pins.ensures)
     c.format.ensures.ok

@@ -19,15 +19,15 @@ loop-at-preserved c =
     let plan = option_map (λ x. x.now) c.args.plan in
     let i = c.loop-at.at in
     let text = string_bytes c.loop-at.text in
-    let low : i < length Cs = omega (arith, c.clause-count-at-end.ensures, c.loop-at-test.true) in
-    let after = pushed c.as-str.result.now refl c.in-ok-push-str.was c.push-str.ensures.bytes
-    ∙ ap (λ t. text ++ t) (c.as-str.ensures.value ∙ c.in-ok-words.ensures ∙ ap (line_if kind plan i) (slice_get-get_or Cs i [] low)) in
-    listed_more (line_at kind plan) Cs i (table_lines kind plan Cs) text c.loop-at.invariant (string_bytes c.push-str.new.self) (get_or Cs i []) [] low refl after
+    let low : i < length Cs = omega (arith, c.clause_count-at-end.ensures, c.loop-at-test.true) in
+    let after = pushed c.as_str.result.now refl c.in_ok-push_str.was c.push_str.ensures.bytes
+    ∙ ap (λ t. text ++ t) (c.as_str.ensures.value ∙ c.in_ok-words.ensures ∙ ap (line_if kind plan i) (slice_get-get_or Cs i [] low)) in
+    listed_more (line_at kind plan) Cs i (table_lines kind plan Cs) text c.loop-at.invariant (string_bytes c.push_str.new.self) (get_or Cs i []) [] low refl after
 
 pub returns : goal.returns
 returns c =
     let Cs = clauses_of c.args.table.now in
     let kind = c.args.kind.now in
     let plan = option_map (λ x. x.now) c.args.plan in
-    let high : length Cs ≤ c.loop-at.at = omega (arith, c.clause-count-at-end.ensures, c.loop-at-test.false) in
+    let high : length Cs ≤ c.loop-at.at = omega (arith, c.clause_count-at-end.ensures, c.loop-at-test.false) in
     listed_all (line_at kind plan) Cs c.loop-at.at (table_lines kind plan Cs) (string_bytes c.loop-at.text) c.loop-at.invariant high

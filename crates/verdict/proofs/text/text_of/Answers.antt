@@ -12,10 +12,10 @@ five a b c d e v w x y z p q r s t = cc
 pub returns : goal.returns
 returns c =
     let h = c.args.hour.now in
-    c.in-ok-text.ensures.ok
+    c.in_ok-text.ensures.ok
     ∙ five _ _ _ _ _ _ _ _ _ _
-    c.in-ok-size.ensures
-    (c.in-ok-clauses.ensures ∙ ap (λ p. table_lines (codes "clause") p (clauses_of h.clauses)) c.plan-of-plan.ensures)
-    (c.in-ok-pins.ensures ∙ ap (λ p. table_lines (codes "pin") p (clauses_of h.pins)) c.plan-of-plan.ensures)
-    c.in-ok-said.ensures
-    c.in-ok-held.ensures
+    c.in_ok-size.ensures
+    (c.in_ok-clauses.ensures ∙ ap (λ p. table_lines (codes "clause") p (clauses_of h.clauses)) c.plan_of-plan.ensures)
+    (c.in_ok-pins.ensures ∙ ap (λ p. table_lines (codes "pin") p (clauses_of h.pins)) c.plan_of-plan.ensures)
+    c.in_ok-said.ensures
+    c.in_ok-held.ensures

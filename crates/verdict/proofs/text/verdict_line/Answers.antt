@@ -7,7 +7,7 @@ use Rattle.verdict.proofs.text.verdict_line.Goals as goal
 
 pub returns-in-Keeps : goal.returns-in-Keeps
 returns-in-Keeps c =
-    made_as c.from-str.result (verdict_line Keeps) (verdict_line c.args.verdict) (sym (ap verdict_line c.in-Keeps.is)) c.from-str.ensures.ok
+    made_as c.from_str.result (verdict_line Keeps) (verdict_line c.args.verdict) (sym (ap verdict_line c.in-Keeps.is)) c.from_str.ensures.ok
 
 pub returns-in-Breaks : goal.returns-in-Breaks
 returns-in-Breaks c =
@@ -16,4 +16,4 @@ returns-in-Breaks c =
 
 pub returns-in-Nothing : goal.returns-in-Nothing
 returns-in-Nothing c =
-    made_as c.from-str-in-Nothing.result (verdict_line Nothing) (verdict_line c.args.verdict) (sym (ap verdict_line c.in-Nothing.is)) c.from-str-in-Nothing.ensures.ok
+    made_as c.from_str-in-Nothing.result (verdict_line Nothing) (verdict_line c.args.verdict) (sym (ap verdict_line c.in-Nothing.is)) c.from_str-in-Nothing.ensures.ok

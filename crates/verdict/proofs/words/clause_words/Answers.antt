@@ -12,9 +12,9 @@ pub loop-i-preserved : goal.loop-i-preserved
 loop-i-preserved c =
     let xs = c.args.codes.now in
     let i = c.loop-i.i in
-    let after = pushed c.as-str.result.now refl c.in-ok-push-str.was c.push-str.ensures.bytes
-    ∙ ap (λ t. string_bytes c.loop-i.text ++ t) (c.as-str.ensures.value ∙ c.in-ok-words.ensures) in
-    listed_more literal_at xs i (clause_words xs) (string_bytes c.loop-i.text) c.loop-i.invariant (string_bytes c.push-str.new.self) (get_or xs i 0) 0 c.loop-i-test.true refl after
+    let after = pushed c.as_str.result.now refl c.in_ok-push_str.was c.push_str.ensures.bytes
+    ∙ ap (λ t. string_bytes c.loop-i.text ++ t) (c.as_str.ensures.value ∙ c.in_ok-words.ensures) in
+    listed_more literal_at xs i (clause_words xs) (string_bytes c.loop-i.text) c.loop-i.invariant (string_bytes c.push_str.new.self) (get_or xs i 0) 0 c.loop-i-test.true refl after
 
 pub returns : goal.returns
 returns c =

@@ -67,7 +67,7 @@ returns-in-55 c = ap meaning_of (sym c.in-55.is)
 pub returns-in-56 : goal.returns-in-56
 returns-in-56 c = ap meaning_of (sym c.in-56.is)
 
-pub returns-in-default : goal.returns-in-default
-returns-in-default c =
+pub returns-in_default : goal.returns-in_default
+returns-in_default c =
     let none : every (λ m. not (eqb c.args.number m.0)) meanings ≡ true = grind (arith, nat_tests) in
     unlisted c.args.number meanings none

@@ -7,8 +7,8 @@ use Rattle.pile.specs.Came.{Came}
 use Rattle.pile.proofs.Layers.{long_enough, was_answer, plan_led_back}
 use Rattle.pile.proofs.layer.LayerSolver.solve.Goals as goal
 
-pub returns-in-ok-rebuild : goal.returns-in-ok-rebuild
-returns-in-ok-rebuild g c =
+pub returns-in_ok-rebuild : goal.returns-in_ok-rebuild
+returns-in_ok-rebuild g c =
     let t = tab_of c.args.table.now in
     let b = c.args.plan.now in
     let m = g.R.Reduction.meaning c.args.self.now.reduction in
@@ -16,9 +16,9 @@ returns-in-ok-rebuild g c =
     let sound = g.met.S.Solver.sound c.args.self.now.solver in
     let right = pile_law.solves s.layers s.bottom sound.layers sound.bottom in
     let points = g.met.R.Reduction.points c.args.self.now.reduction t c.last.ensures.lawful in
-    let reduced = c.in-ok-reduce.ensures.came in
-    let was = was_answer c.solve.result c.in-ok-answer.answer (sym c.raised.ensures ∙ c.in-ok-answer.was) in
-    let long = ap (λ n. ltb (length b) (n + 1)) (sym c.last.ensures.value) ∙ long_enough (c.last.result + 1) b c.in-ok-check-buffer.field-0 c.in-ok-check-buffer.ensures in
+    let reduced = c.in_ok-reduce.ensures.came in
+    let was = was_answer c.solve.result c.in_ok-answer.answer (sym c.raised.ensures ∙ c.in_ok-answer.was) in
+    let long = ap (λ n. ltb (length b) (n + 1)) (sym c.last.ensures.value) ∙ long_enough (c.last.result + 1) b c.in_ok-check_buffer.field-0 c.in_ok-check_buffer.ensures in
     let came = subst (λ r. Came (tab_of c.reduce.new.table) (answer_of s) b r c.solve.new.plan) (was ∙ ap Ok c.in-Plan.is) c.solve.ensures.came in
     let led = plan_led_back m (answer_of s) t b c.last.ensures.lawful points right long (tab_of c.reduce.new.table) (g.R.Reduction.held c.reduce.new.self) c.solve.new.plan c.rebuild.new.plan c.in-Plan.field-0 reduced.0 reduced.1 came c.rebuild.ensures.buffer in
     record {

@@ -19,7 +19,7 @@ next_is : (g : given.Over) (c : In-Some g)
     → (g.R.Rule.rule c.args.self.now.rule).next (newest_first g.R.Rule.noted (vec_items c.loop-notes.notes)) (tab_of c.loop-notes.table)
     ≡ step (g.R.Rule.noted c.in-Some.note) (tab_of c.step.new.table)
 next_is g c =
-    took AllocError (g.R.Rule.rule c.args.self.now.rule) g.R.Rule.noted _ _ _ _ c.in-ok-note.field-0 (ap (newest_first g.R.Rule.noted) c.as-slice.ensures.value) c.in-ok-note.ensures c.in-Some.note c.in-Some.is
+    took AllocError (g.R.Rule.rule c.args.self.now.rule) g.R.Rule.noted _ _ _ _ c.in_ok-note.field-0 (ap (newest_first g.R.Rule.noted) c.as_slice.ensures.value) c.in_ok-note.ensures c.in-Some.note c.in-Some.is
 
 -- and it is safe
 safe_step : (g : given.Over) (c : In-Some g)
@@ -37,15 +37,15 @@ loop-notes-preserved g c =
     let noted = g.R.Rule.noted in
     let good = safe_step g d in
     let pushed : newest_first noted (vec_items c.push.new.self) ≡ noted c.in-Some.note ∷ newest_first noted (vec_items c.loop-notes.notes) =
-    ap (newest_first noted) c.in-ok-push.ensures.items ∙ newest_push noted (vec_items c.loop-notes.notes) c.in-Some.note in (
+    ap (newest_first noted) c.in_ok-push.ensures.items ∙ newest_push noted (vec_items c.loop-notes.notes) c.in-Some.note in (
       good.table,
       good.no_larger.same_last ∙ c.loop-notes.invariant.1,
       λ ms v run. c.loop-notes.invariant.2 ms v (goes (next_is g d) (subst (λ ns. Runs r ns (tab_of c.step.new.table) ms v) pushed run)),
     )
 
-pub returns-in-err-push : goal.returns-in-err-push
-returns-in-err-push g c =
-    let same = (safe_step g (goal.at.returns-in-err-push g c).In-Some).no_larger.same_last ∙ c.loop-notes.invariant.1 in
+pub returns-in_err-push : goal.returns-in_err-push
+returns-in_err-push g c =
+    let same = (safe_step g (goal.at.returns-in_err-push g c).In-Some).no_larger.same_last ∙ c.loop-notes.invariant.1 in
     search rules
 
 pub returns : goal.returns
@@ -54,7 +54,7 @@ returns g c =
     let noted = g.R.Rule.noted in
     let ns = newest_first noted (vec_items c.loop-notes.notes) in
     let t = tab_of c.args.table.now in
-    let end = stopped AllocError r noted _ ns _ _ c.in-ok-note.field-0 (ap (newest_first noted) c.as-slice.ensures.value) c.in-ok-note.ensures c.in-default.is in
+    let end = stopped AllocError r noted _ ns _ _ c.in_ok-note.field-0 (ap (newest_first noted) c.as_slice.ensures.value) c.in_ok-note.ensures c.in_default.is in
     let run = c.loop-notes.invariant.2 ns (tab_of c.loop-notes.table) (ends end.0) in
     let only = (repetition r (g.met.R.Rule.safe c.args.self.now.rule) t c.last.ensures.lawful).only ns (tab_of c.loop-notes.table) run in
     let sized : ◌≡◌ {A = Way} (record { bytes = c.last.result + 1; apply = undo_all r ns }) (record { bytes = t.last + 1; apply = undo_all r ns }) =

@@ -6,8 +6,8 @@ pub returns : goal.returns
 returns c =
     let o = answer_of c.args.self.now in
     let b = c.args.out.now in
-    let n = c.in-ok-size.size in
-    let h = c.in-ok-size.ensures.value in
+    let n = c.in_ok-size.size in
+    let h = c.in_ok-size.ensures.value in
     record {
       value = value_at o n b h c.if-out-size.false;
       after = after_at o n b c.put.new.out h c.put.ensures.after;

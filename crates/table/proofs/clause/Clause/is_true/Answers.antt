@@ -7,5 +7,5 @@ use Rattle.table.proofs.clause.Clause.is_true.Goals as goal
 
 pub returns : goal.returns
 returns c =
-    c.is-some.ensures ∙ ap is_some c.agreeing.ensures
+    c.is_some.ensures ∙ ap is_some c.agreeing.ensures
     ∙ some_first (holds c.args.plan.now) (codes_of c.args.self.now)

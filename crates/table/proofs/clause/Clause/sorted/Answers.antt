@@ -10,8 +10,8 @@ use Rattle.table.proofs.clause.Clause.sorted.Goals as goal
 
 pub insert-requires : goal.insert-requires
 insert-requires c =
-    let le = prefix_len-le-length (λ x. not (ltb (get_or c.args.codes.now c.loop-code.code-index 0) x)) c.as-slice.result.now in
-    omega (arith, c.rank-at.ensures, c.as-slice.ensures.len, le)
+    let le = prefix_len-le-length (λ x. not (ltb (get_or c.args.codes.now c.loop-code.code-index 0) x)) c.as_slice.result.now in
+    omega (arith, c.rank-at.ensures, c.as_slice.ensures.len, le)
 
 pub loop-code-preserved : goal.loop-code-preserved
 loop-code-preserved c =
@@ -19,9 +19,9 @@ loop-code-preserved c =
     let i = c.loop-code.code-index in
     let x = get_or xs i 0 in
     let out = vec_items c.loop-code.out in
-    let ranked : c.rank-at.result ≡ rank_of x c.as-slice.result.now = c.rank-at.ensures in
-    let at : c.rank-at.result ≡ rank_of x out = ranked ∙ ap (rank_of x) c.as-slice.ensures.value in
-    let items : vec_items c.insert.new.self ≡ inserted out c.rank-at.result x = c.in-ok-insert.ensures.items in
+    let ranked : c.rank-at.result ≡ rank_of x c.as_slice.result.now = c.rank-at.ensures in
+    let at : c.rank-at.result ≡ rank_of x out = ranked ∙ ap (rank_of x) c.as_slice.ensures.value in
+    let items : vec_items c.insert.new.self ≡ inserted out c.rank-at.result x = c.in_ok-insert.ensures.items in
     let put : vec_items c.insert.new.self ≡ insert x out = items ∙ ap (λ n. inserted out n x) at ∙ sym (insert_rank x out) in
     ap (λ zs. fold (λ C y. insert y C) zs (drop (i + 1) xs)) put
     ∙ sym (at_drop_more (fold (λ C y. insert y C) out) xs i 0 c.loop-code-test.true) ∙ c.loop-code.invariant

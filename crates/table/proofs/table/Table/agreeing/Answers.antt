@@ -17,7 +17,7 @@ returns-in-Some c =
     nth_item codes_of c.deref.result.now t.clauses.items c.args.at c.get.result (Some c.in-Some.clause) c.deref.ensures.value c.get.ensures.lookup c.in-Some.is in
     let answer : c.agreeing.result ≡ first (holds p) C = c.agreeing.ensures in
     ap Ok (answer ∙ ap (agreeing_of p) (sym found))
-    ∙ judged_with (λ _. agreeing_of p (slice_get (map codes_of t.clauses.items) c.args.at)) t.last p tt tt c.in-ok-check-plan.ensures
+    ∙ judged_with (λ _. agreeing_of p (slice_get (map codes_of t.clauses.items) c.args.at)) t.last p tt tt c.in_ok-check_plan.ensures
 
 pub returns-in-None : goal.returns-in-None
 returns-in-None c =
@@ -26,4 +26,4 @@ returns-in-None c =
     let found : slice_get (map codes_of t.clauses.items) c.args.at ≡ None =
     nth_item codes_of c.deref.result.now t.clauses.items c.args.at c.get.result None c.deref.ensures.value c.get.ensures.lookup c.in-None.is in
     ap Ok (ap (agreeing_of p) (sym found))
-    ∙ judged_with (λ _. agreeing_of p (slice_get (map codes_of t.clauses.items) c.args.at)) t.last p tt tt c.in-ok-check-plan.ensures
+    ∙ judged_with (λ _. agreeing_of p (slice_get (map codes_of t.clauses.items) c.args.at)) t.last p tt tt c.in_ok-check_plan.ensures

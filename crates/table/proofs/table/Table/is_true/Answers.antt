@@ -14,6 +14,6 @@ returns c =
     let t = c.args.self.now in
     let p = c.args.plan.now in
     let Cs = map codes_of t.clauses.items in
-    ap Ok (sym (not-not c.is-none.result) ∙ ap not (sym c.is-none.ensures))
-    ∙ judged_with (λ o. not (is_some o)) t.last p c.in-ok-found.found (place (λ C. not (true_in p C)) Cs) c.in-ok-found.ensures
+    ap Ok (sym (not-not c.is_none.result) ∙ ap not (sym c.is_none.ensures))
+    ∙ judged_with (λ o. not (is_some o)) t.last p c.in_ok-found.found (place (λ C. not (true_in p C)) Cs) c.in_ok-found.ensures
     ∙ ap (judged t.last p) (none_place (true_in p) 0 Cs)

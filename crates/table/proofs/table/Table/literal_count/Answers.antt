@@ -15,8 +15,8 @@ turn c = at_read (λ ds. literals (map codes_of ds)) c.deref-clause-items.result
 pub loop-clause-init : goal.loop-clause-init
 loop-clause-init c = (c.deref-clause-items.ensures.value, zero-add _)
 
-pub overflow-add-n : goal.overflow-add-n
-overflow-add-n c =
+pub overflow_add-n : goal.overflow_add-n
+overflow_add-n c =
     let all = ap (λ ds. literals (map codes_of ds)) c.loop-clause.invariant.0 in
     omega (arith, turn c, all, c.loop-clause.invariant.1, c.args.self.now.small)
 

@@ -12,13 +12,13 @@ use Rattle.table.proofs.table.Table.occurs.Goals as goal
 pub loop-clause-init : goal.loop-clause-init
 loop-clause-init c = (c.deref-clause-items.ensures.value, refl)
 
-pub returns-then-speaks-of : goal.returns-then-speaks-of
-returns-then-speaks-of c =
+pub returns-then-speaks_of : goal.returns-then-speaks_of
+returns-then-speaks_of c =
     let xs = c.deref-clause-items.result.now in
     let C = c.clause-item.result in
     let inv = c.loop-clause.invariant in
     let more = at_read (λ ds. occurs_in c.args.c (map codes_of ds)) xs c.loop-clause.clause-index C C c.loop-clause-test.true c.clause-item.is in
-    sym (or_left (any (λ l. eqb (choice l) c.args.c) (codes_of C)) _ (sym c.if-speaks-of.ensures))
+    sym (or_left (any (λ l. eqb (choice l) c.args.c) (codes_of C)) _ (sym c.if-speaks_of.ensures))
     ∙ sym more ∙ inv.1 ∙ ap (λ ds. occurs_in c.args.c (map codes_of ds)) inv.0
 
 pub loop-clause-preserved : goal.loop-clause-preserved
@@ -27,7 +27,7 @@ loop-clause-preserved c =
     let C = c.clause-item.result in
     let inv = c.loop-clause.invariant in
     let more = at_read (λ ds. occurs_in c.args.c (map codes_of ds)) xs c.loop-clause.clause-index C C c.loop-clause-test.true c.clause-item.is in
-    (inv.0, sym (or_next (any (λ l. eqb (choice l) c.args.c) (codes_of C)) _ (sym c.if-speaks-of.ensures)) ∙ sym more ∙ inv.1)
+    (inv.0, sym (or_next (any (λ l. eqb (choice l) c.args.c) (codes_of C)) _ (sym c.if-speaks_of.ensures)) ∙ sym more ∙ inv.1)
 
 pub returns : goal.returns
 returns c =

@@ -12,46 +12,46 @@ use Rattle.verdict.proofs.hour.Hour.load.Goals.{In-ok-got}
 
 -- the record that was read stands in the file where the reader stood
 here : (c : In-ok-got)
-    → read_at c.args.src.now c.loop-hour.reader.pos ≡ gives (entry_of c.in-ok-got.got) c.read.new.self.pos
+    → read_at c.args.src.now c.loop-hour.reader.pos ≡ gives (entry_of c.in_ok-got.got) c.read.new.self.pos
 here c =
-    let read = gives (entry_of c.in-ok-got.got) c.read.new.self.pos in
+    let read = gives (entry_of c.in_ok-got.got) c.read.new.self.pos in
     read_here c.args.src.now c.loop-hour.reader.src.now c.loop-hour.reader.pos read c.loop-hour.invariant.0
-    c.in-ok-got.ensures.came
+    c.in_ok-got.ensures.came
 
 -- what comes of it is what comes of it at that offset
 at_place : (c : In-ok-got) (x : Loaded)
-    → fed (asked_of c.loop-hour.hour) c.position-at.result (entry_of c.in-ok-got.got) ≡ x
-    → fed (asked_of c.loop-hour.hour) c.loop-hour.reader.pos (entry_of c.in-ok-got.got) ≡ x
+    → fed (asked_of c.loop-hour.hour) c.position-at.result (entry_of c.in_ok-got.got) ≡ x
+    → fed (asked_of c.loop-hour.hour) c.loop-hour.reader.pos (entry_of c.in_ok-got.got) ≡ x
 at_place c x e =
-    ap (λ (n : ℕ). fed (asked_of c.loop-hour.hour) n (entry_of c.in-ok-got.got)) (sym c.position-at.ensures) ∙ e
+    ap (λ (n : ℕ). fed (asked_of c.loop-hour.hour) n (entry_of c.in_ok-got.got)) (sym c.position-at.ensures) ∙ e
 
-pub returns-in-err-got : goal.returns-in-err-got
-returns-in-err-got c =
-    let read = refuses c.in-err-got.field-0.0 in
+pub returns-in_err-got : goal.returns-in_err-got
+returns-in_err-got c =
+    let read = refuses c.in_err-got.field-0.0 in
     let refused =
     read_here c.args.src.now c.loop-hour.reader.src.now c.loop-hour.reader.pos read c.loop-hour.invariant.0
-    c.in-err-got.ensures.came in
-    let out = err_from_is_err_and c.from-residual.result c.from-residual.ensures.1 in
+    c.in_err-got.ensures.came in
+    let out = err_from_is_err_and c.from_residual.result c.from_residual.ensures.1 in
     subst (ReadAs c.args.src.now) (sym (out.1 ∙ ap Err out.2)) (c.loop-hour.invariant.1 _ (breaks refused))
 
-pub returns-then-is-end : goal.returns-then-is-end
-returns-then-is-end c =
-    c.loop-hour.invariant.1 _ (ends (here (goal.at.returns-then-is-end c).In-ok-got) (sym c.if-is-end.ensures))
+pub returns-then-is_end : goal.returns-then-is_end
+returns-then-is_end c =
+    c.loop-hour.invariant.1 _ (ends (here (goal.at.returns-then-is_end c).In-ok-got) (sym c.if-is_end.ensures))
 
 pub loop-hour-preserved : goal.loop-hour-preserved
 loop-hour-preserved c =
     let k = (goal.at.loop-hour-preserved c).In-ok-got in
-    let same : c.read.new.self.src.now ≡ c.loop-hour.reader.src.now = c.in-ok-got.ensures.same in (
+    let same : c.read.new.self.src.now ≡ c.loop-hour.reader.src.now = c.in_ok-got.ensures.same in (
       same ∙ c.loop-hour.invariant.0,
       λ x on. c.loop-hour.invariant.1 x
-          (goes (here k) (sym c.if-is-end.ensures) (at_place k _ c.in-ok-feed.ensures) on),
+          (goes (here k) (sym c.if-is_end.ensures) (at_place k _ c.in_ok-feed.ensures) on),
     )
 
-pub returns-in-err-feed : goal.returns-in-err-feed
-returns-in-err-feed c =
-    let k = (goal.at.returns-in-err-feed c).In-ok-got in
-    let out = err_from_is_err_and c.from-residual-in-err-feed.result c.from-residual-in-err-feed.ensures.1 in
+pub returns-in_err-feed : goal.returns-in_err-feed
+returns-in_err-feed c =
+    let k = (goal.at.returns-in_err-feed c).In-ok-got in
+    let out = err_from_is_err_and c.from_residual-in_err-feed.result c.from_residual-in_err-feed.ensures.1 in
     subst (ReadAs c.args.src.now) (sym (out.1 ∙ ap Err out.2))
     (stopped_as c.args.src.now (asked_of c.loop-hour.hour) (asked_of c.feed.new.self) c.position-at.result
-    (entry_of c.in-ok-got.got) _ c.in-err-feed.ensures
+    (entry_of c.in_ok-got.got) _ c.in_err-feed.ensures
     (λ f e. c.loop-hour.invariant.1 _ (stops (here k) (at_place k _ e))))

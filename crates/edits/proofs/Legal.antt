@@ -34,12 +34,14 @@ legal_table t =
 -- what the ghost fields ask, of clauses that are such by their codes
 pub owed :
     (n : ℕ) (v : Vec Clause Global) (Cs : List (List ℕ)) → map codes_of (vec_items v) ≡ Cs → Legal n Cs
-    → (vec_len v ≤ 1024) × ((literals (map codes_of (vec_items v)) ≤ 8192) × ((every (lawful n) (map codes_of (vec_items v)) ≡ true) × Unit {0}))
+    → record { few : vec_len v ≤ 1024; small : literals (map codes_of (vec_items v)) ≤ 8192; each : every (lawful n) (map codes_of (vec_items v)) ≡ true }
 owed n v Cs e ok =
-    let long = length-map v.items codes_of in (
-      omega (arith, ok.few, v.ok.0, long, ap length e),
-      (omega (arith, ok.small, ap literals e), (ap (every (lawful n)) e ∙ ok.each, tt)),
-    )
+    let long = length-map v.items codes_of in
+    record {
+      few = omega (arith, ok.few, v.ok.0, long, ap length e);
+      small = omega (arith, ok.small, ap literals e);
+      each = ap (every (lawful n)) e ∙ ok.each;
+    }
 
 module _ (n : ℕ) (Cs : List (List ℕ)) (ok : Legal n Cs) where
   pub legal_kept : (g : List ℕ → Bool) → Legal n (filter g Cs)

@@ -1,6 +1,8 @@
 // The layer: one reduction over one solver, and itself a solver.
 ghost use Rattle.std.specs.Prelude.{◌≡◌};
+ghost use Rattle.std.proofs.lemmas.List.Elements.{All-cons};
 ghost use Rattle.laws.specs.Piles.{over};
+ghost use Rattle.laws.specs.Reductions.{Reduces};
 
 use crate::answer::Answer;
 use crate::checks::{check_buffer, raised};
@@ -29,7 +31,9 @@ impl<R: Reduction, S: Solver> Solver for Layer<R, S> {
 
     ghost sound = { λ s.
         let below = S.Solver.sound s.solver in
-        record { layers = (R.Reduction.points s.reduction, below.layers); bottom = below.bottom } };
+        record {
+            layers = All-cons Reduces (R.Reduction.meaning s.reduction) (S.Solver.pile s.solver).layers (R.Reduction.points s.reduction) below.layers;
+            bottom = below.bottom } };
 
     // Checks the buffer, reduces, solves below, and leads a plan back.
     fn solve(&mut self, table: &mut Table, plan: &mut [u8]) -> Result<Answer, Error> {

@@ -12,11 +12,11 @@ loop-i-preserved c =
     let ws = c.args.set.now in
     let xs = c.args.clauses.now.items in
     let ys = c.loop-i.clauses.items in
-    let C = c.index-mut.result.now in
+    let C = c.index_mut.result.now in
     let long = length-map xs codes_of in
     let same = simp (length-append, length-map, length-take, length-drop) at (ap length c.loop-i.invariant) in
     let lt : i < length ys = omega (arith, c.args.clauses.now.ok.0) in
-    let read : codes_of C ≡ get_or (map codes_of ys) i (codes_of C) = ap codes_of c.index-mut.ensures.value ∙ sym (get_or-map codes_of ys i C (codes_of C) lt) in
+    let read : codes_of C ≡ get_or (map codes_of ys) i (codes_of C) = ap codes_of c.index_mut.ensures.value ∙ sym (get_or-map codes_of ys i C (codes_of C) lt) in
     map-set codes_of ys i (record { codes = c.strip_codes.new.codes })
     ∙ ap (set (map codes_of ys) i) c.strip_codes.ensures
     ∙ map_over_more (strip ws) (map codes_of xs) (map codes_of ys) i (codes_of C) (omega (arith, c.args.clauses.now.ok.0)) c.loop-i.invariant read

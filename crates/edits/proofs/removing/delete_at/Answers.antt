@@ -16,8 +16,8 @@ left : (c : After-strip_codes)
     ≡ deleted_at c.args.at c.args.code (clauses_of c.args.table.now)
 left c =
     let t = c.args.table.now in
-    deleted_there t.clauses.items c.args.at c.args.code c.negation_of.result c.index-mut.result.now (record { codes = c.strip_codes.new.codes })
-    (omega (arith, t.clauses.ok.0)) c.index-mut.ensures.value c.negation_of.ensures c.strip_codes.ensures
+    deleted_there t.clauses.items c.args.at c.args.code c.negation_of.result c.index_mut.result.now (record { codes = c.strip_codes.new.codes })
+    (omega (arith, t.clauses.ok.0)) c.index_mut.ensures.value c.negation_of.ensures c.strip_codes.ensures
 
 pub invariant_of-table : goal.invariant_of-table
 invariant_of-table c =

@@ -10,7 +10,7 @@ use Rattle.pile.proofs.repeat.undo_all.Goals as goal
 pub loop-note-init : goal.loop-note-init
 loop-note-init g c =
     ap (λ xs. undo_all (g.R.Rule.rule c.args.rule.now) (newest_first g.R.Rule.noted xs) c.args.plan.now)
-    (ap (λ i. iter_rest (rev_source i)) c.into-iter-note-iterator.ensures.into-iter-gives ∙ ap iter_rest c.rev-note-items.ensures.source ∙ c.iter.ensures.rest)
+    (ap (λ i. iter_rest (rev_source i)) c.into_iter-note-iterator.ensures.into_iter_gives ∙ ap iter_rest c.rev-note-items.ensures.source ∙ c.iter.ensures.rest)
 
 pub loop-note-preserved : goal.loop-note-preserved
 loop-note-preserved g c =

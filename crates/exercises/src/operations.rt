@@ -130,7 +130,7 @@ fn one_literal_and_occurring(rt: HostRuntime) -> Result<(), Fail> {
     assert_eq!(rt; count_of(&table, 99), 0);
     assert_eq!(rt; occurring_count(&table), 3);
     let found = occurring_choices(&table)?;
-    assert!(rt; found.as_slice() == [0, 1, 3]);
+    assert!(rt; found.as_slice() == [0, 1, 3].as_slice());
     Ok(())
 }
 
@@ -161,7 +161,7 @@ fn resolvents_in_their_order(rt: HostRuntime) -> Result<(), Fail> {
     assert!(rt; clashes(0, &[0, 2], &[1, 3]));
     assert!(rt; !clashes(0, &[0, 2], &[1, 2]));
     let one = resolvent(heap, 0, &[0, 5, 6], &[1, 2, 6])?;
-    assert!(rt; one.codes() == [2, 5, 6]);
+    assert!(rt; one.codes() == [2, 5, 6].as_slice());
     let table = table_of(
         heap,
         4,

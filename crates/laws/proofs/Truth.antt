@@ -40,8 +40,8 @@ module _ (p : List ℕ) where
       Decides-like (true_in p C)
       (λ k. (get_or C k.0 0, Contains-get_or C k.0 0 k.1, k.2 0))
       (λ l.
-        let at = at_from_Contains C l.0 l.1 in
-        (at.0, at.1, λ d. subst (Agrees p) (sym (at.2 d)) l.2))
+      let at = at_from_Contains C l.0 l.1 in
+      (at.0, at.1, λ d. subst (Agrees p) (sym (at.2 d)) l.2))
       (Decides-by_or (holds p) (Agrees p) (true_in p) decides_holds refl (λ _ _. refl) C)
 
 pub truth : Truth

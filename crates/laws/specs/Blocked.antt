@@ -1,5 +1,5 @@
 -- Blocked: a clause that can be made true without harm is removed (blocked clause elimination).
-use Rattle.std.specs.Prelude.{◌≡◌, ℕ, Bool, cond, not, ◌&&◌, ◌||◌, List, length, Some, None, Contains, ◌==◌, ◌≢◌}
+use Rattle.std.specs.Prelude.{ℕ, Bool, cond, not, ◌&&◌, ◌||◌, List, length, Some, None, Contains, ◌==◌, ◌≢◌}
 use Rattle.std.specs.List.{remove}
 use Rattle.laws.specs.Clauses.{true_in}
 use Rattle.laws.specs.Lists.{any, every, has}

@@ -1,5 +1,5 @@
 -- Setting literals: what becomes of a plan and of clauses when literals are made true (assigning literals).
-use Rattle.std.specs.Prelude.{ℕ, ◌-◌, ◌%◌, Bool, cond, not, List, [], ◌∷◌, set, filter, slice_set}
+use Rattle.std.specs.Prelude.{ℕ, ◌-◌, ◌%◌, Bool, cond, not, List, [], ◌∷◌, filter, slice_set}
 use Rattle.laws.specs.Lists.{any, has}
 use Rattle.laws.specs.Literals.{choice, neg}
 use Rattle.laws.specs.Tables.{Tab}

@@ -1,5 +1,5 @@
 -- Trim: a literal that another clause makes needless is deleted (self-subsuming resolution, strengthening).
-use Rattle.std.specs.Prelude.{◌≡◌, ℕ, Bool, not, ◌&&◌, ◌||◌, List, [], Some, None, Contains, filter, ◌==◌, ◌≢◌, slice_index_or, slice_set}
+use Rattle.std.specs.Prelude.{ℕ, Bool, not, ◌&&◌, ◌||◌, List, [], Some, None, Contains, filter, ◌==◌, ◌≢◌, slice_index_or, slice_set}
 use Rattle.laws.specs.Clauses.{literals}
 use Rattle.laws.specs.Lists.{any, every, has}
 use Rattle.laws.specs.Literals.{neg}

@@ -32,8 +32,9 @@ impl<R: Reduction, S: Solver> Solver for Layer<R, S> {
     ghost sound = { λ s.
         let below = S.Solver.sound s.solver in
         record {
-            layers = All-cons Reduces (R.Reduction.meaning s.reduction) (S.Solver.pile s.solver).layers (R.Reduction.points s.reduction) below.layers;
-            bottom = below.bottom } };
+          layers = All-cons Reduces (R.Reduction.meaning s.reduction) (S.Solver.pile s.solver).layers (R.Reduction.points s.reduction) below.layers;
+          bottom = below.bottom;
+        } };
 
     // Checks the buffer, reduces, solves below, and leads a plan back.
     fn solve(&mut self, table: &mut Table, plan: &mut [u8]) -> Result<Answer, Error> {

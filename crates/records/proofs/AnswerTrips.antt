@@ -139,8 +139,7 @@ seven_exact (x ∷ y ∷ z ∷ p ∷ q ∷ r ∷ s ∷ []) h a =
     let at_p : p < 256 = a 3 0 (omega arith) in
     let at_q : q < 256 = a 4 0 (omega arith) in
     let at_r : r < 256 = a 5 0 (omega arith) in
-    let at_s : s < 256 = a 6 0 (omega arith) in
-    (
+    let at_s : s < 256 = a 6 0 (omega arith) in (
       record {
         layer_fits = a 0 0 (omega arith);
         depth_fits = a 1 0 (omega arith);
@@ -149,7 +148,7 @@ seven_exact (x ∷ y ∷ z ∷ p ∷ q ∷ r ∷ s ∷ []) h a =
         offset_fits = omega arith;
       },
       ap (λ (l : List ℕ). x ∷ y ∷ z ∷ (l ++ in_two (r * 256 + s))) (two_forth p q at_p at_q)
-      ∙ ap (λ (l : List ℕ). x ∷ y ∷ z ∷ p ∷ q ∷ l) (two_forth r s at_r at_s),
+          ∙ ap (λ (l : List ℕ). x ∷ y ∷ z ∷ p ∷ q ∷ l) (two_forth r s at_r at_s),
     )
 
 -- a plan of 1 to 256 bytes, each 0 or 1, has a record

@@ -1,5 +1,5 @@
 -- The verdict on an answer.
-use Rattle.std.specs.Prelude.{ℕ, ◌+◌, true, cond, List, ◌++◌, length, Ok, Err, Result, ◌==◌}
+use Rattle.std.specs.Prelude.{ℕ, ◌+◌, cond, List, ◌++◌, length, Ok, Err, Result, ◌==◌}
 use Rattle.laws.specs.Outcomes.{Outcome, planned, never, refused}
 use Rattle.laws.specs.Plans.{broken}
 use Rattle.verdict.specs.declared.failure.Failure.{Failure}

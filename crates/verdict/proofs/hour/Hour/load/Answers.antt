@@ -2,7 +2,7 @@
 use Rattle.std.proofs.Common.{◌≡◌, ℕ, Err, sym, ap, ◌∙◌, subst}
 use Rattle.std.proofs.lemmas.Result.{err_from_is_err_and}
 use Rattle.records.specs.Entries.{Entry, entry_of}
-use Rattle.records.specs.Reading.{read_at, refuses, gives}
+use Rattle.records.specs.Reading.{refuses, gives}
 use Rattle.records.proofs.Scripts.{read_here}
 use Rattle.verdict.specs.Hours.{Asked, Loaded, asked_of, fed}
 use Rattle.verdict.specs.Loading.{ends, breaks, stops, goes, ReadAs}

@@ -2,16 +2,17 @@
 #![tactic(auto)]
 
 use anyhow::anyhow;
+use std::process::ExitCode;
 use std::{env, fs};
 use verdict::{Verdict, audit};
 
-fn main(rt: HostRuntime) -> anyhow::Result<()> {
+fn main(rt: HostRuntime) -> ExitCode {
     match run(&rt) {
-        Ok(Verdict::Breaks { .. }) => Err(anyhow!("the plan breaks the sheet")),
-        Ok(_) => Ok(()),
+        Ok(Verdict::Breaks { .. }) => ExitCode::FAILURE,
+        Ok(_) => ExitCode::SUCCESS,
         Err(e) => {
-            eprintln!(rt; "audit: {e}")?;
-            Err(e)
+            let _ = eprintln!(rt; "audit: {e}");
+            ExitCode::FAILURE
         }
     }
 }

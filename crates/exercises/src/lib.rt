@@ -1,4 +1,4 @@
-// Many cases of operations on tables, of layers and of repeated rules.
+// Many cases of operations on tables.
 #![tactic(auto)]
 
 #[cfg(test)]

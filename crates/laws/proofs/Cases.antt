@@ -7,11 +7,11 @@ use Rattle.laws.specs.Eliminate.{eliminate_next}
 use Rattle.laws.specs.Lister.{lister, tries}
 use Rattle.laws.specs.Lone.{lone_next}
 use Rattle.laws.specs.Rules.{run_from}
-use Rattle.laws.specs.Splitter.{search, turn}
+use Rattle.laws.specs.Splitter.{found_within, turn}
 use Rattle.laws.specs.Trim.{trim_next}
 
 pub worked_cases : WorkedCases
-unfolding blocked_next colour_next eliminate_next lister tries lone_next run_from search turn trim_next
+unfolding blocked_next colour_next eliminate_next lister tries lone_next run_from found_within turn trim_next
 worked_cases =
     record {
       lone_leaves = refl;

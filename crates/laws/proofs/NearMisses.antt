@@ -4,10 +4,10 @@ use Rattle.laws.specs.Blocked.{blocked_next}
 use Rattle.laws.specs.Eliminate.{eliminate_next}
 use Rattle.laws.specs.NearMisses.{NearMisses}
 use Rattle.laws.specs.Rules.{run_from}
-use Rattle.laws.specs.Splitter.{search, turn}
+use Rattle.laws.specs.Splitter.{found_within, turn}
 
 pub near_misses : NearMisses
-unfolding blocked_next eliminate_next run_from search turn
+unfolding blocked_next eliminate_next run_from found_within turn
 near_misses =
     record {
       blocked_order = record { table = refl; below = refl; last_to_first = refl; first_to_last = refl };

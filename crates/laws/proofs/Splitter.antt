@@ -14,7 +14,7 @@ use Rattle.laws.specs.Outcomes.Outcome.{refused}
 use Rattle.laws.specs.Plans.{PlanOf, Possible}
 use Rattle.laws.specs.Setting.{assign, with_set}
 use Rattle.laws.specs.Solvers.{RightFor}
-use Rattle.laws.specs.Splitter.{Turn, Found, Searches, TurnsOf, FirstShortest, SplitterLaw, is_empty, shortest_of, lowest_of, split_on, turn, blank, setting, chosen, is_none, search, found, splits_of, outcome_of, within_splits, splitter}
+use Rattle.laws.specs.Splitter.{Turn, Found, Searches, TurnsOf, FirstShortest, SplitterLaw, is_empty, shortest_of, lowest_of, split_on, turn, blank, setting, chosen, is_none, found_within, found, splits_of, outcome_of, within_splits, splitter}
 use Rattle.laws.specs.Splitter.Turn.{refuted, solved, forced, splits}
 use Rattle.laws.specs.Splitter.Found.{plan, none}
 use Rattle.laws.specs.Splitter.Searches.{empty_clause, no_clause, lone_clause, split}
@@ -258,20 +258,20 @@ by_turn k t x =
     elim x [
       | refuted ↦ none 0
       | solved ↦ plan (blank t.last) 0
-      | forced w ↦ setting w (search k (with_set w t))
-      | splits w ↦ chosen w (search k (with_set w t)) (search k (with_set (neg w) t))
+      | forced w ↦ setting w (found_within k (with_set w t))
+      | splits w ↦ chosen w (found_within k (with_set w t)) (found_within k (with_set (neg w) t))
     ]
 
-search_step : (k : ℕ) (t : Tab) → search (suc k) t ≡ by_turn k t (turn t.clauses)
-unfolding search
+search_step : (k : ℕ) (t : Tab) → found_within (suc k) t ≡ by_turn k t (turn t.clauses)
+unfolding found_within
 search_step k t = refl
 
-search_at : (k : ℕ) (t : Tab) (x : Turn) → turn t.clauses ≡ x → search (suc k) t ≡ by_turn k t x
+search_at : (k : ℕ) (t : Tab) (x : Turn) → turn t.clauses ≡ x → found_within (suc k) t ≡ by_turn k t x
 search_at k t x e = search_step k t ∙ ap (by_turn k t) e
 
 -- the function searches, given more depth than choices occur
 searches_turn :
-    (k : ℕ) (t : Tab) → ((u : Tab) → Lawful u → occurring_count u < k → Searches u (search k u)) → Lawful t
+    (k : ℕ) (t : Tab) → ((u : Tab) → Lawful u → occurring_count u < k → Searches u (found_within k u)) → Lawful t
     → occurring_count t < suc k → (x : Turn) → turn t.clauses ≡ x → Searches t (by_turn k t x)
 searches_turn k t ih ok lt refuted e = empty_clause e
 searches_turn k t ih ok lt solved e = no_clause e
@@ -282,7 +282,7 @@ searches_turn k t ih ok lt (splits w) e =
     split w e (ih (with_set w t) (assigned_lawful (w ∷ []) t ok) (omega (arith, less.0)))
     (λ _. ih (with_set (neg w) t) (assigned_lawful (neg w ∷ []) t ok) (omega (arith, less.1)))
 
-searches_at : (k : ℕ) (t : Tab) → Lawful t → occurring_count t < k → Searches t (search k t)
+searches_at : (k : ℕ) (t : Tab) → Lawful t → occurring_count t < k → Searches t (found_within k t)
 searches_at zero t ok lt = absurd (omega arith)
 searches_at (suc k) t ok lt =
     subst (Searches t) (sym (search_step k t)) (searches_turn k t (searches_at k) ok lt (turn t.clauses) refl)
@@ -293,7 +293,7 @@ chosen_same w (plan p k) b c h = refl
 chosen_same w (none k) b c h = ap (chosen w (none k)) (h refl)
 
 -- whatever is searched is what the function gives
-searches_same : (k : ℕ) (t : Tab) (a : Found) → Searches t a → Lawful t → occurring_count t < k → a ≡ search k t
+searches_same : (k : ℕ) (t : Tab) (a : Found) → Searches t a → Lawful t → occurring_count t < k → a ≡ found_within k t
 searches_same zero t a s ok lt = absurd (omega arith)
 searches_same (suc k) t a (empty_clause e) ok lt = sym (search_at k t refuted e)
 searches_same (suc k) t a (no_clause e) ok lt = sym (search_at k t solved e)
@@ -302,8 +302,8 @@ searches_same (suc k) t a (lone_clause {a = b} w e s) ok lt =
     ∙ sym (search_at k t (forced w) e)
 searches_same (suc k) t a (split {a = b} {b = c} w e s r) ok lt =
     let less = falls_split t w ok e in
-    chosen_same w b c (search k (with_set (neg w) t)) (λ h. searches_same k (with_set (neg w) t) c (r h) (assigned_lawful (neg w ∷ []) t ok) (omega (arith, less.1)))
-    ∙ ap (λ x. chosen w x (search k (with_set (neg w) t))) (searches_same k (with_set w t) b s (assigned_lawful (w ∷ []) t ok) (omega (arith, less.0)))
+    chosen_same w b c (found_within k (with_set (neg w) t)) (λ h. searches_same k (with_set (neg w) t) c (r h) (assigned_lawful (neg w ∷ []) t ok) (omega (arith, less.1)))
+    ∙ ap (λ x. chosen w x (found_within k (with_set (neg w) t))) (searches_same k (with_set w t) b s (assigned_lawful (w ∷ []) t ok) (omega (arith, less.0)))
     ∙ sym (search_at k t (splits w) e)
 
 -- what a search owes: its plan is a plan and makes the table true, or no plan does

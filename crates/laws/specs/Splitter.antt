@@ -84,20 +84,20 @@ pub data Searches : Tab → Found → Type 0 where
       → (is_none a ≡ true → Searches (with_set (neg w) t) b)
       → Searches t (chosen w a b)
 
--- the search as a function, at most k literals deep
-unfoldable pub search : ℕ → Tab → Found
-search zero t = none 0
-search (suc k) t =
+-- what the search finds, at most k literals deep
+unfoldable pub found_within : ℕ → Tab → Found
+found_within zero t = none 0
+found_within (suc k) t =
     elim (turn t.clauses) [
       | refuted ↦ none 0
       | solved ↦ plan (blank t.last) 0
-      | forced w ↦ setting w (search k (with_set w t))
-      | splits w ↦ chosen w (search k (with_set w t)) (search k (with_set (neg w) t))
+      | forced w ↦ setting w (found_within k (with_set w t))
+      | splits w ↦ chosen w (found_within k (with_set w t)) (found_within k (with_set (neg w) t))
     ]
 
 -- each literal that is set takes an occurring choice away
 abbrev pub found : Tab → Found
-found t = search (suc (occurring_count t)) t
+found t = found_within (suc (occurring_count t)) t
 
 -- the number of splits
 abbrev pub splits_of : Found → ℕ

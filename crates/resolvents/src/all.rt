@@ -1,7 +1,7 @@
 // All resolvents of a choice.
 ghost use Rattle.std.specs.Prelude.{◌≡◌, [], ◌∷◌, ◌++◌, map, IfOk, OnOk};
 ghost use Rattle.laws.specs.Literals.{leaving};
-ghost use Rattle.laws.specs.Resolving.{holding, resolvents_of, resolvents as resolvents-by};
+ghost use Rattle.laws.specs.Resolving.{holding, resolvents_of, resolvents as resolvents_by};
 ghost use Rattle.table.specs.Codes.{codes_of};
 ghost use Rattle.table.specs.Held.{clauses_of};
 
@@ -43,7 +43,7 @@ fn push_each(table: &Table, c: u8, first: &[u16], out: &mut Vec<Clause>) -> Resu
 // The resolvents of choice `c`: of each clause that takes it with each that leaves it out, in order; a pair that also
 // clashes has none.
 pub fn resolvents(table: &Table, c: u8) -> Result<Vec<Clause>, AllocError>
-    ensures { IfOk result (λ v. map codes_of v.items ≡ resolvents-by c (clauses_of table.now)) }
+    ensures { IfOk result (λ v. map codes_of v.items ≡ resolvents_by c (clauses_of table.now)) }
 {
     let mut out = Vec::new(table.heap);
     for first in table.clauses.iter() {

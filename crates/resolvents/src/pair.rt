@@ -1,6 +1,6 @@
 // Two clauses: whether they clash, and their resolvent.
 ghost use Rattle.std.specs.Prelude.{◌≡◌, [], ◌∷◌, IfOk, OnOk};
-ghost use Rattle.laws.specs.Resolving.{apart, join, union, clash, resolvent as without-choice};
+ghost use Rattle.laws.specs.Resolving.{apart, join, union, clash, resolvent as without_choice};
 ghost use Rattle.table.specs.Codes.{codes_of};
 
 use queries::{negation_of, stands_in};
@@ -57,7 +57,7 @@ fn add_other(out: &mut Vec<u16>, c: u16, code: u16) -> Result<(), AllocError>
 
 // The literals of both clauses without choice `c`, in ascending order.
 pub fn resolvent(heap: Global, c: u16, first: &[u16], second: &[u16]) -> Result<Clause, AllocError>
-    ensures { IfOk result (λ C. codes_of C ≡ without-choice c first.now second.now) }
+    ensures { IfOk result (λ C. codes_of C ≡ without_choice c first.now second.now) }
 {
     let mut out = others_of(heap, c, first)?;
     for i in (0..second.len()).rev() {

@@ -1,4 +1,4 @@
-// A clause: its literals, in ascending order.
+// A clause: its literals. Those of a table are in ascending order, by the table's ghost fields.
 ghost use Rattle.std.specs.Prelude.{◌≡◌, IfOk, nat_eq};
 ghost use Rattle.laws.specs.Clauses.{sorted, true_in};
 ghost use Rattle.laws.specs.Lists.{any, first};

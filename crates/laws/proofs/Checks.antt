@@ -1,9 +1,9 @@
 -- The checks of a clause: what the computed refusal says, and the way back.
-use Rattle.std.proofs.Common.{◌≡◌, ℕ, ◌+◌, ◌<◌, ◌≤◌, Bool, true, false, ◌&&◌, eqb, ltb, leb, List, [], ◌∷◌, ◌++◌, length, get_or, Some, None, Decides, Option, sym, refl, ap, ◌∙◌, subst, inl, inr, arith}
+use Rattle.std.proofs.Common.{◌≡◌, ℕ, ◌+◌, ◌<◌, ◌≤◌, true, ◌&&◌, eqb, ltb, leb, List, [], ◌∷◌, ◌++◌, length, get_or, Some, None, Decides, Option, sym, refl, ap, ◌∙◌, subst, inl, inr, arith}
 use Rattle.std.specs.Option.{option_map}
 use Rattle.std.proofs.lemmas.List.{append_assoc, length-append, length_push, get_or_append_left, get_or_at, get_or_default}
 use Rattle.std.proofs.lemmas.List.Elements.{All-get_or}
-use Rattle.std.proofs.lemmas.Bool.{leb-true, leb-false, le-leb, lt-leb, ltb-true, ltb-false, lt-ltb, le-ltb, eqb-true, eq-eqb, and_from, cases_Bool, cases_lt, cases_order, both_ways}
+use Rattle.std.proofs.lemmas.Bool.{leb-true, leb-false, le-leb, lt-leb, ltb-true, ltb-false, lt-ltb, le-ltb, eqb-true, eq-eqb, and_from, cases_Bool, cases_lt, cases_order, both_ways, false_from_ne_true}
 use Rattle.std.proofs.lemmas.Bool.Decides.{nat_tests, Decides-and, Decides-ltb, not_from_Decides}
 use Rattle.laws.specs.declared.fault.Fault.{Fault}
 use Rattle.laws.specs.Faults.{fault}
@@ -166,10 +166,6 @@ first_again codes =
           (at.1, at.2, λ k lt. at.3 k (omega arith) lt);
     }
 
--- a fact that does not hold has a test that is false
-false_from_decides : {P : Type 0} (b : Bool) → Decides b P → (P → ⊥) → b ≡ false
-false_from_decides b d h = elim (cases_Bool b) [ inl t ↦ absurd (h (d.0 t)) | inr f ↦ f ]
-
 -- a clause has 1 to 256 codes, by computing and in words
 decides_sized : (codes : List ℕ) → Decides (ltb 0 (length codes) && leb (length codes) 256) (Sized codes)
 decides_sized codes =
@@ -255,7 +251,7 @@ module _ (most : Limits) (n clauses literals : ℕ) (codes : List ℕ) where
       {number place : ℕ} → Fails most n clauses literals codes number place
       → refusal most n clauses literals codes ≡ Some (fault most.layer number place)
   some_from (size h) =
-      or_else_stops check11 _ _ (ap (λ b. unless b (fault most.layer 11 0)) (false_from_decides _ (decides_sized codes) h))
+      or_else_stops check11 _ _ (ap (λ b. unless b (fault most.layer 11 0)) (false_from_ne_true _ (λ t. h ((decides_sized codes).0 t))))
   some_from (above i h lt low more) =
       skip11 h ∙ or_else_stops check12 _ _ (ap (option_map (fault most.layer 12)) (some_above n codes i lt low more))
   some_from (again i h low lt once r) =

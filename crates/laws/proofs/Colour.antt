@@ -2,7 +2,7 @@
 use Rattle.std.proofs.Common.{◌≡◌, ℕ, ◌+◌, ◌%◌, ◌<◌, ◌≤◌, Bool, true, cond, not, ◌||◌, eqb, leb, List, [], ◌∷◌, map, Contains, count_by, sym, refl, ap, ◌∙◌, subst, inl, inr, arith}
 use Rattle.std.specs.List.{range_with_len}
 use Rattle.std.proofs.lemmas.List.Sums.{sum_by-cons}
-use Rattle.std.proofs.lemmas.Bool.{cases_Bool, cases_eq, and_parts, and_from, or_cases, or_left, or_right, both_ways, not-true, not_from_false, eqb-true, eq-eqb, ne_eqb, leb-true, le-leb}
+use Rattle.std.proofs.lemmas.Bool.{cases_Bool, cases_eq, and_parts, and_from, or_cases, or_left, or_right, both_ways, not-true, not_from_false, eqb-true, eq-eqb, ne_eqb, leb-true, le-leb, false_from_ne_true}
 use Rattle.std.proofs.lemmas.Bool.Decides.{nat_tests}
 use Rattle.laws.specs.Clauses.{all_true, within}
 use Rattle.laws.specs.Colour.{Property, Proper, marked, balanced, coloured, colour_next, colour, scarce, pure, sign, Colours, NoColour, ColourLaw}
@@ -14,7 +14,7 @@ use Rattle.laws.specs.Setting.{meets, assign, assigned}
 use Rattle.laws.specs.Tables.{Tab, Lawful, occurs_in}
 use Rattle.laws.proofs.Counting.{has_counting, counting_has}
 use Rattle.laws.proofs.Kept.{any_witness, any_from, every_at, every_from, kept_stands, stands_kept}
-use Rattle.laws.proofs.Lists.{decides_has, false_if}
+use Rattle.laws.proofs.Lists.{decides_has}
 use Rattle.laws.proofs.Negation.{choice_neg, neg_neg}
 use Rattle.laws.proofs.Occurring.{occurs_witness, occurs_from, literal_low}
 use Rattle.laws.proofs.Reductions.{still_possible}
@@ -60,7 +60,7 @@ module _ (f : Property) (good : Proper f) (t : Tab) (ok : Lawful t) where
 
   setting_consistent : consistent setting
   setting_consistent w h =
-      false_if (has (neg w) setting)
+      false_from_ne_true (has (neg w) setting)
       (λ among. both_ways (f t.clauses (neg (neg w))) (good.one_side t.clauses (neg w) (set_says w h).1) (set_says (neg w) among).1)
 
   -- a clause with the negation of a literal that has the property contains one of those that are set
@@ -102,7 +102,7 @@ module _ (f : Property) (good : Proper f) (t : Tab) (ok : Lawful t) where
     still_true : (q : List ℕ) → all_true q t.clauses ≡ true → all_true q (assign setting t.clauses) ≡ true
     still_true q h =
         assign_keeps setting t.clauses q
-        (λ C l stands apart in' _. false_if (has (neg l) setting)
+        (λ C l stands apart in' _. false_from_ne_true (has (neg l) setting)
         (λ among.
         let own = subst (λ k. f t.clauses k ≡ true) (neg_neg l) (set_says (neg l) among).1 in
         both_ways (meets setting C) apart (meets_own C l stands in' own)))

@@ -1,6 +1,7 @@
 -- Eliminate: its steps are safe, and at its end no choice qualifies.
 use Rattle.std.proofs.Common.{◌≡◌, ℕ, ◌+◌, ◌≤◌, true, false, not, ◌&&◌, ◌||◌, eqb, leb, List, length, Contains, sym, refl, ap, ◌∙◌, subst, inl, inr, arith}
 use Rattle.std.specs.List.{range_with_len}
+use Rattle.std.proofs.lemmas.List.Folds.{list_all-append}
 use Rattle.std.proofs.lemmas.Bool.{cases_Bool, and_parts, and_from, or_cases, or_left, or_right, both_ways, not-true, not-false, not_from_true, not_from_false, eqb-false, eq-eqb, ne_eqb, leb-true, le-leb, cond_both}
 use Rattle.laws.specs.Clauses.{all_true, true_in, lawful, literals}
 use Rattle.laws.specs.Eliminate.{Elimination, noted_clauses, noted_literals, no_growth, note_fits, qualifies, eliminate_next, otherwise_true, eliminate_undo, eliminate, Qualifies, NoQualified, EliminateLaw}
@@ -15,7 +16,7 @@ use Rattle.laws.specs.Tables.{Tab, Lawful, occurs_in}
 use Rattle.laws.proofs.Counting.{has_counting, counting_has}
 use Rattle.laws.proofs.Kept.{any_witness, any_from, any_none, every_at, every_from, kept_stands, stands_kept, every_kept_by}
 use Rattle.laws.proofs.Lawful.{one_of_choice}
-use Rattle.laws.proofs.Lists.{every_append, first-some, first_none, decides_has}
+use Rattle.laws.proofs.Lists.{first-some, first_none, decides_has}
 use Rattle.laws.proofs.Negation.{choice_neg, holds_neg, negation}
 use Rattle.laws.proofs.Occurring.{occurring_falls}
 use Rattle.laws.proofs.Reductions.{no_larger_lawful, still_possible}
@@ -102,7 +103,7 @@ module _ (t : Tab) (ok : Lawful t) (c : ℕ) (low : c ≤ t.last) where
     parts : (all_true p (others c t.clauses) ≡ true) × (all_true p (resolvents c t.clauses) ≡ true)
     parts =
         and_parts (all_true p (others c t.clauses)) (all_true p (resolvents c t.clauses))
-        (sym (every_append (true_in p) (others c t.clauses) (resolvents c t.clauses)) ∙ h)
+        (sym (list_all-append (true_in p) (others c t.clauses) (resolvents c t.clauses)) ∙ h)
 
     -- a clause that does not speak of c stays true
     still_other :
@@ -193,7 +194,7 @@ module _ (t : Tab) (ok : Lawful t) (c : ℕ) (low : c ≤ t.last) where
 
     still_true : all_true q (resolved c t.clauses) ≡ true
     still_true =
-        every_append (true_in q) (others c t.clauses) (resolvents c t.clauses)
+        list_all-append (true_in q) (others c t.clauses) (resolvents c t.clauses)
         ∙ and_from (all_true q (others c t.clauses)) (all_true q (resolvents c t.clauses))
         (every_kept_by (true_in q) (λ C. not (any (λ l. eqb (choice l) c) C)) t.clauses h)
         (every_resolvents (true_in q) c (holding (taking c) t.clauses) (holding (leaving c) t.clauses)

@@ -1,12 +1,13 @@
 -- Elements of lists by tests: what some, each and the kept elements say.
 use Rattle.std.proofs.Common.{◌≡◌, ℕ, zero, suc, ◌<◌, ◌≤◌, Bool, true, false, ◌&&◌, ltb, leb, ◌⊎◌, List, [], ◌∷◌, length, Contains, filter, sym, refl, ap, ◌∙◌, subst, inl, inr, arith}
 use Rattle.std.proofs.lemmas.List.Elements.{All-contains, All-contains_itself, All-filter, at_from_Contains, filter_passes}
-use Rattle.std.proofs.lemmas.Bool.{and_parts, and_from, both_ways, or_cases, cond_both}
+use Rattle.std.proofs.lemmas.List.Sums.{length-filter, count_by-le-length}
+use Rattle.std.proofs.lemmas.Bool.{and_parts, and_from, both_ways, or_cases, cond_both, false_from_ne_true}
 use Rattle.std.proofs.lemmas.Bool.Decides.{nat_tests}
 use Rattle.laws.specs.Clauses.{ascends, lawful, literals, within}
 use Rattle.laws.specs.Lists.{any, every}
 use Rattle.laws.specs.Literals.{choice, top}
-use Rattle.laws.proofs.Lists.{decides_any, decides_every, false_if}
+use Rattle.laws.proofs.Lists.{decides_any, decides_every}
 use Rattle.laws.proofs.Options.{no}
 
 module _ {X : Type 0} where
@@ -40,10 +41,10 @@ module _ {X : Type 0} where
 
   -- no element passes exactly if none that stands in the list does
   pub any_none : (f : X → Bool) (xs : List X) (x : X) → any f xs ≡ false → Contains xs x → f x ≡ false
-  any_none f xs x none stands = false_if (f x) (λ t. both_ways (any f xs) none (any_from f xs x stands t))
+  any_none f xs x none stands = false_from_ne_true (f x) (λ t. both_ways (any f xs) none (any_from f xs x stands t))
 
   pub none_from : (f : X → Bool) (xs : List X) → ((x : X) → Contains xs x → f x ≡ true → ⊥) → any f xs ≡ false
-  none_from f xs h = false_if (any f xs) (λ t. let (x, stands, passes) = any_witness f xs t in h x stands passes)
+  none_from f xs h = false_from_ne_true (any f xs) (λ t. let (x, stands, passes) = any_witness f xs t in h x stands passes)
 
   -- each element passes exactly if all that stand in the list do
   pub every_at : (f : X → Bool) (xs : List X) (x : X) → every f xs ≡ true → Contains xs x → f x ≡ true
@@ -88,8 +89,7 @@ module _ {X : Type 0} where
   any_kept_by f g (x ∷ xs) = let ih = any_kept_by f g xs in grind (arith, nat_tests)
 
   pub length_kept_by_le : (g : X → Bool) (xs : List X) → length (filter g xs) ≤ length xs
-  length_kept_by_le g [] = omega arith
-  length_kept_by_le g (x ∷ xs) = let ih = length_kept_by_le g xs in grind (arith, nat_tests)
+  length_kept_by_le g xs = omega (arith, length-filter g xs, count_by-le-length g xs)
 
   -- a weaker test keeps no fewer elements, and more if it alone passes one
   pub length_kept_by_weaker :

@@ -5,6 +5,7 @@ pub mod Negation
 pub mod Broken
 pub mod Lawful
 pub mod Sorted
+pub mod Ordered
 pub mod Checks
 pub mod Tables
 pub mod Kept

@@ -1,41 +1,15 @@
--- Tests over joined lists, what a test over a list says of its elements, and the first element that passes one.
-use Rattle.std.proofs.Common.{◌≡◌, ℕ, zero, suc, ◌+◌, ◌<◌, Bool, true, false, cond, not, ◌&&◌, ◌||◌, eqb, ◌↔◌, List, [], ◌∷◌, ◌++◌, length, get_or, Some, None, Decides, All, Contains, count_by, refl, ap, ◌∙◌, subst, inl, inr, arith}
+-- Tests over mapped lists, what a test over a list says of its elements, and the first element that passes one.
+use Rattle.std.proofs.Common.{◌≡◌, ℕ, zero, suc, ◌+◌, ◌<◌, Bool, true, false, cond, not, ◌||◌, eqb, ◌↔◌, List, [], ◌∷◌, map, length, get_or, Some, None, Decides, All, Contains, count_by, refl, sym, ap, subst, inl, inr, arith}
 use Rattle.std.specs.List.{HoldsAt}
 use Rattle.std.proofs.lemmas.List.Elements.{All-get_or, Contains-get_or, Decides-contains}
 use Rattle.std.proofs.lemmas.List.Sums.{sum_by-cons}
+use Rattle.std.proofs.lemmas.List.Folds.{list_all-map}
 use Rattle.std.proofs.lemmas.Bool.Decides.{nat_tests, Decides-by_and, Decides-by_or, Decides-eqb}
 use Rattle.std.proofs.lemmas.Bool.{and_parts, and_from, or_from, cases_Bool, both_ways}
 use Rattle.laws.specs.Lists.{any, every, place_from, first, has}
 use Rattle.laws.proofs.Options.{no}
 
--- how && and || group
-and_assoc : (a b c : Bool) → (a && (b && c)) ≡ ((a && b) && c)
-and_assoc true b c = refl
-and_assoc false b c = refl
-
-or_assoc : (a b c : Bool) → (a || (b || c)) ≡ ((a || b) || c)
-or_assoc true b c = refl
-or_assoc false b c = refl
-
--- true and false leave the other test
-pub and_true : (a : Bool) → (a && true) ≡ a
-and_true true = refl
-and_true false = refl
-
-pub or_false : (a : Bool) → (a || false) ≡ a
-or_false true = refl
-or_false false = refl
-
--- what is not true is false
-pub false_if : (b : Bool) → (b ≡ true → ⊥) → b ≡ false
-false_if true h = absurd (h refl)
-false_if false h = refl
-
 module _ {X : Type 0} where
-  pub every_append : (f : X → Bool) (xs ys : List X) → every f (xs ++ ys) ≡ (every f xs && every f ys)
-  every_append f [] ys = refl
-  every_append f (x ∷ xs) ys = ap (λ b. f x && b) (every_append f xs ys) ∙ and_assoc (f x) (every f xs) (every f ys)
-
   -- what passes a test passes a weaker one
   pub every_weaker :
       (f g : X → Bool) → ((x : X) → f x ≡ true → g x ≡ true) → (xs : List X) → every f xs ≡ true → every g xs ≡ true
@@ -43,10 +17,6 @@ module _ {X : Type 0} where
   every_weaker f g w (x ∷ xs) h =
       let both = and_parts (f x) (every f xs) h in
       and_from (g x) (every g xs) (w x both.0) (every_weaker f g w xs both.1)
-
-  pub any_append : (f : X → Bool) (xs ys : List X) → any f (xs ++ ys) ≡ (any f xs || any f ys)
-  any_append f [] ys = refl
-  any_append f (x ∷ xs) ys = ap (λ b. f x || b) (any_append f xs ys) ∙ or_assoc (f x) (any f xs) (any f ys)
 
   -- a test that holds of each element holds at each place
   pub decides_every : (f : X → Bool) (xs : List X) → Decides (every f xs) (All (λ x. f x ≡ true) xs)
@@ -85,6 +55,19 @@ module _ {X : Type 0} where
             let more : cond {A = ℕ} (not (f x)) 1 0 ≡ 1 = grind (arith, nat_tests) in
             (λ h. absurd (omega arith), λ h. absurd (both_ways (f x) u (and_parts (f x) (every f xs) h).0))
       ]
+
+-- a search of elements is one of what they are mapped to
+module _ {X Y : Type 0} (f : X → Bool) (g : Y → X) where
+  pub any_map : (ys : List Y) → any (λ y. f (g y)) ys ≡ any f (map g ys)
+  any_map [] = refl
+  any_map (y ∷ ys) = ap (λ b. f (g y) || b) (any_map ys)
+
+  pub every_map : (ys : List Y) → every (λ y. f (g y)) ys ≡ every f (map g ys)
+  every_map ys = sym (list_all-map f g ys)
+
+  pub place_map : (i : ℕ) (ys : List Y) → place_from (λ y. f (g y)) i ys ≡ place_from f i (map g ys)
+  place_map i [] = refl
+  place_map i (y ∷ ys) = ap (cond (f (g y)) (Some i)) (place_map (i + 1) ys)
 
 -- what holds at 0 and one place on below j holds below suc j
 pub below_cons : (P : ℕ → Type 0) (j : ℕ) → P 0 → ((k : ℕ) → k < j → P (suc k)) → (k : ℕ) → k < suc j → P k

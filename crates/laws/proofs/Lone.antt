@@ -1,5 +1,6 @@
 -- Lone: its steps are safe, and at its end no clause of one literal is left.
 use Rattle.std.proofs.Common.{◌≡◌, ◌≢◌, ℕ, zero, suc, ◌<◌, true, List, [], ◌∷◌, length, get_or, Some, None, Contains, sym, refl, ap, ◌∙◌, subst, inl, inr, arith}
+use Rattle.std.proofs.Math.Bool.{or-false}
 use Rattle.std.proofs.lemmas.List.Elements.{All-nil, All-cons, Contains-get_or}
 use Rattle.std.proofs.lemmas.Bool.Decides.{nat_tests}
 use Rattle.laws.specs.Clauses.{true_in, all_true}
@@ -9,7 +10,7 @@ use Rattle.laws.specs.Rules.{GoodStep, Safe, ran}
 use Rattle.laws.specs.Setting.{meets, with_set}
 use Rattle.laws.specs.Tables.{Tab, Lawful}
 use Rattle.laws.proofs.Kept.{has_here, any_from, every_at}
-use Rattle.laws.proofs.Lists.{or_false, below_cons}
+use Rattle.laws.proofs.Lists.{below_cons}
 use Rattle.laws.proofs.Occurring.{literal_low}
 use Rattle.laws.proofs.Options.{no, or_else_none, or_else_some, or_else_skips, or_else_stops}
 use Rattle.laws.proofs.Repetition.{repetition}
@@ -64,7 +65,7 @@ lone_stands Cs w h =
     subst (Contains Cs) found.clause_is (Contains-get_or Cs found.at [] found.inside)
 
 pub lone_holds : (Cs : List (List ℕ)) (w : ℕ) (p : List ℕ) → Contains Cs (w ∷ []) → all_true p Cs ≡ true → holds p w ≡ true
-lone_holds Cs w p stands h = sym (or_false (holds p w)) ∙ every_at (true_in p) Cs (w ∷ []) h stands
+lone_holds Cs w p stands h = sym (or-false (holds p w)) ∙ every_at (true_in p) Cs (w ∷ []) h stands
 
 -- none is found only if no clause has just one literal
 lone_none : (Cs : List (List ℕ)) → lone_in Cs ≡ None → NoLone Cs

@@ -1,6 +1,8 @@
 -- Resolvents: which literals stand in them, that they are lawful, and what all of them say together.
 use Rattle.std.proofs.Common.{◌≡◌, ℕ, Bool, true, false, not, ◌&&◌, ◌||◌, eqb, ltb, leb, ◌⊎◌, List, [], ◌∷◌, Contains, sym, refl, ◌∙◌, subst, inl, inr, arith}
-use Rattle.std.proofs.lemmas.Bool.{cases_Bool, and_parts, and_from, or_cases, or_parts, or_from, or_left, or_right, both_ways, not-true, eqb-true, eqb-false, ltb-true, cond_both}
+use Rattle.std.proofs.Math.Bool.{and-true, or-false}
+use Rattle.std.proofs.lemmas.List.Folds.{list_all-append, list_any-append}
+use Rattle.std.proofs.lemmas.Bool.{cases_Bool, and_parts, and_from, or_cases, or_parts, or_from, or_left, or_right, both_ways, not-true, eqb-true, eqb-false, ltb-true, cond_both, false_from_ne_true}
 use Rattle.std.proofs.lemmas.Bool.Decides.{nat_tests}
 use Rattle.laws.specs.Clauses.{within, ascends, lawful, insert}
 use Rattle.laws.specs.Lists.{any, every, has}
@@ -8,7 +10,7 @@ use Rattle.laws.specs.Literals.{choice, neg, top, taking, leaving}
 use Rattle.laws.specs.Resolving.{apart, join, union, clash, resolvent, resolvents_of, resolvents_all, holding, others, resolvents, resolved}
 use Rattle.laws.specs.Tables.{occurs_in}
 use Rattle.laws.proofs.Kept.{any_witness, any_from, none_from, every_at, every_from, kept_stands, every_kept_by, any_kept_by, lawful_kept_by}
-use Rattle.laws.proofs.Lists.{any_append, every_append, decides_has, and_true, or_false, false_if}
+use Rattle.laws.proofs.Lists.{decides_has}
 use Rattle.laws.proofs.Occurring.{occurs_from}
 use Rattle.laws.proofs.Setting.{same_or_neg}
 use Rattle.laws.proofs.Sorted.{any_insert, every_insert, ascends_insert}
@@ -19,7 +21,7 @@ or_absorbs true b h = h refl
 or_absorbs false b h = refl
 
 and_absorbs : (a b : Bool) → (b ≡ true → a ≡ true) → b ≡ (a && b)
-and_absorbs a true h = sym (h refl) ∙ sym (and_true a)
+and_absorbs a true h = sym (h refl) ∙ sym (and-true a)
 and_absorbs true false h = refl
 and_absorbs false false h = refl
 
@@ -38,11 +40,11 @@ every_join f y C =
 
 -- in a union stand the literals of both clauses
 pub any_union : (f : ℕ → Bool) (C D : List ℕ) → any f (union C D) ≡ (any f C || any f D)
-any_union f C [] = sym (or_false (any f C))
+any_union f C [] = sym (or-false (any f C))
 any_union f C (y ∷ ys) = let one = any_join f y (union C ys) in let ih = any_union f C ys in grind (arith, nat_tests)
 
 every_union : (f : ℕ → Bool) (C D : List ℕ) → every f (union C D) ≡ (every f C && every f D)
-every_union f C [] = sym (and_true (every f C))
+every_union f C [] = sym (and-true (every f C))
 every_union f C (y ∷ ys) = let one = every_join f y (union C ys) in let ih = every_union f C ys in grind (arith, nat_tests)
 
 -- the codes still ascend with one literal more whose negation is not there
@@ -59,7 +61,7 @@ ascends_join y C a free =
 -- in ascending codes the first literal's negation does not stand behind it
 neg_not_behind : (y : ℕ) (ys : List ℕ) → ascends (y ∷ ys) ≡ true → has (neg y) ys ≡ false
 neg_not_behind y ys a =
-    false_if (has (neg y) ys)
+    false_from_ne_true (has (neg y) ys)
     (λ there.
     let up = (and_parts (every (λ z. ltb (choice y) (choice z)) ys) (ascends ys) a).0 in
     let higher = every_at (λ z. ltb (choice y) (choice z)) ys (neg y) up ((decides_has (neg y) ys).0 there) in
@@ -119,7 +121,7 @@ module _ (g : List ℕ → Bool) (c : ℕ) where
       → every g (resolvents_all c Cs Ds) ≡ every (λ C. every (λ D. clash c C D || g (resolvent c C D)) Ds) Cs
   every_resolvents [] Ds = refl
   every_resolvents (C ∷ Cs) Ds =
-      let whole = every_append g (resolvents_of c C Ds) (resolvents_all c Cs Ds) in
+      let whole = list_all-append g (resolvents_of c C Ds) (resolvents_all c Cs Ds) in
       let one = every_resolvents_of C Ds in
       let ih = every_resolvents Cs Ds in
       cc
@@ -135,7 +137,7 @@ module _ (g : List ℕ → Bool) (c : ℕ) where
       → any g (resolvents_all c Cs Ds) ≡ any (λ C. any (λ D. not (clash c C D) && g (resolvent c C D)) Ds) Cs
   any_resolvents [] Ds = refl
   any_resolvents (C ∷ Cs) Ds =
-      let whole = any_append g (resolvents_of c C Ds) (resolvents_all c Cs Ds) in
+      let whole = list_any-append g (resolvents_of c C Ds) (resolvents_all c Cs Ds) in
       let one = any_resolvents_of C Ds in
       let ih = any_resolvents Cs Ds in
       cc
@@ -145,7 +147,7 @@ module _ (c : ℕ) (Cs : List (List ℕ)) where
   -- they are lawful if the clauses are
   pub resolved_lawful : (n : ℕ) → every (lawful n) Cs ≡ true → every (lawful n) (resolved c Cs) ≡ true
   resolved_lawful n ok =
-      every_append (lawful n) (others c Cs) (resolvents c Cs)
+      list_all-append (lawful n) (others c Cs) (resolvents c Cs)
       ∙ and_from (every (lawful n) (others c Cs)) (every (lawful n) (resolvents c Cs))
       (every_kept_by (lawful n) (λ C. not (any (λ l. eqb (choice l) c) C)) Cs ok)
       (every_resolvents (lawful n) c (holding (taking c) Cs) (holding (leaving c) Cs)
@@ -176,7 +178,7 @@ module _ (c : ℕ) (Cs : List (List ℕ)) where
   -- a choice that occurs in the clauses with c resolved occurred before, and is not c
   pub resolved_occurs : (d : ℕ) → occurs_in d (resolved c Cs) ≡ true → (occurs_in d Cs ≡ true) × (d ≡ c → ⊥)
   resolved_occurs d h =
-      elim (or_cases (occurs_in d (others c Cs)) (occurs_in d (resolvents c Cs)) (sym (any_append (any (λ l. eqb (choice l) d)) (others c Cs) (resolvents c Cs)) ∙ h)) [
+      elim (or_cases (occurs_in d (others c Cs)) (occurs_in d (resolvents c Cs)) (sym (list_any-append (any (λ l. eqb (choice l) d)) (others c Cs) (resolvents c Cs)) ∙ h)) [
         | inl old ↦
             let at = any_witness (any (λ l. eqb (choice l) d)) (others c Cs) old in
             let C = at.0 in
@@ -198,7 +200,7 @@ module _ (c : ℕ) (Cs : List (List ℕ)) where
       ]
 
   pub resolved_gone : occurs_in c (resolved c Cs) ≡ false
-  resolved_gone = false_if (occurs_in c (resolved c Cs)) (λ still. (resolved_occurs c still).1 refl)
+  resolved_gone = false_from_ne_true (occurs_in c (resolved c Cs)) (λ still. (resolved_occurs c still).1 refl)
 
 -- a clause that speaks of c holds one of its two literals
 pub speaks_of :

@@ -2,7 +2,7 @@
 use Rattle.std.proofs.Common.{◌≡◌, ℕ, ◌+◌, ◌-◌, ◌%◌, ◌<◌, ◌≤◌, true, false, cond, not, eqb, leb, ◌⊎◌, List, [], ◌∷◌, length, Contains, sym, refl, ap, ◌∙◌, subst, inl, inr, arith}
 use Rattle.std.proofs.lemmas.List.Elements.{All-set}
 use Rattle.std.proofs.lemmas.List.{length-set, get_or-set_same, get_or-set_other}
-use Rattle.std.proofs.lemmas.Bool.{and_parts, and_from, or_parts, or_cases, cases_Bool, cases_eq, both_ways, not-true, not_from_true, not_from_false, eqb-true, eqb-false, leb-true, le-leb, cond_both}
+use Rattle.std.proofs.lemmas.Bool.{and_parts, and_from, or_parts, or_cases, cases_Bool, cases_eq, both_ways, not-true, not_from_true, not_from_false, eqb-true, eqb-false, leb-true, le-leb, cond_both, false_from_ne_true}
 use Rattle.std.proofs.lemmas.Bool.Decides.{nat_tests}
 use Rattle.laws.specs.Clauses.{all_true, true_in, within, lawful, literals}
 use Rattle.laws.specs.Lists.{any, every, has}
@@ -12,7 +12,7 @@ use Rattle.laws.specs.Reductions.{NoLarger}
 use Rattle.laws.specs.Setting.{make, make_all, meets, strip, assign, assigned, with_set}
 use Rattle.laws.specs.Tables.{Tab, Lawful, occurs_in}
 use Rattle.laws.proofs.Kept.{has_none, has_here, has_later, has_cases, any_witness, any_from, none_from, every_at, every_from, kept_stands, stands_kept, lawful_kept_by, length_kept_by_le}
-use Rattle.laws.proofs.Lists.{decides_has, false_if}
+use Rattle.laws.proofs.Lists.{decides_has}
 use Rattle.laws.proofs.Negation.{neg_neg, neg_differs, holds_neg}
 use Rattle.laws.proofs.Options.{no}
 use Rattle.laws.proofs.Reductions.{no_larger_lawful}
@@ -154,7 +154,7 @@ stands_strip ws C l stands apart =
 -- literals that a plan makes true include no negation of one that it makes true
 pub neg_apart : (q ws : List ℕ) (l : ℕ) → every (holds q) ws ≡ true → holds q l ≡ true → has (neg l) ws ≡ false
 neg_apart q ws l true' h =
-    false_if (has (neg l) ws)
+    false_from_ne_true (has (neg l) ws)
     (λ stands.
     let made' = every_at (holds q) ws (neg l) true' ((decides_has (neg l) ws).0 stands) in
     both_ways (holds q (neg l)) (holds_neg q l ∙ not_from_true (holds q l) h) made')

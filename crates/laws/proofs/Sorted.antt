@@ -1,5 +1,7 @@
 -- Sorting by insertion.
 use Rattle.std.proofs.Common.{◌≡◌, ℕ, ◌+◌, ◌<◌, Bool, true, false, ◌&&◌, ◌||◌, eqb, ltb, ◌↔◌, List, [], ◌∷◌, ◌++◌, length, None, fold, Contains, sym, refl, ◌∙◌, arith}
+use Rattle.std.proofs.Math.Bool.{and-true, or-false}
+use Rattle.std.proofs.lemmas.List.Folds.{list_any-append}
 use Rattle.std.proofs.lemmas.Bool.{ltb-true, ltb-false, eqb-false, lt-ltb, and_parts, and_from, or_parts, cond_both}
 use Rattle.std.proofs.lemmas.Bool.Decides.{nat_tests}
 use Rattle.laws.specs.Lists.{any, every}
@@ -7,7 +9,7 @@ use Rattle.laws.specs.Literals.{choice, holds}
 use Rattle.laws.specs.Clauses.{insert, sorted, ascends}
 use Rattle.laws.specs.Checks.{repeat_from}
 use Rattle.laws.specs.Sorted.{Sorting}
-use Rattle.laws.proofs.Lists.{any_append, decides_has, every_weaker, and_true, or_false}
+use Rattle.laws.proofs.Lists.{decides_has, every_weaker}
 
 pub every_insert : (f : ℕ → Bool) (y : ℕ) (xs : List ℕ) → every f (insert y xs) ≡ (f y && every f xs)
 every_insert f y [] = refl
@@ -46,11 +48,11 @@ abbrev pub into : List ℕ → List ℕ → List ℕ
 into C codes = fold (λ C l. insert l C) C codes
 
 pub every_into : (f : ℕ → Bool) (C codes : List ℕ) → every f (into C codes) ≡ (every f C && every f codes)
-every_into f C [] = sym (and_true (every f C))
+every_into f C [] = sym (and-true (every f C))
 every_into f C (x ∷ xs) = let ih = every_into f (insert x C) xs in let one = every_insert f x C in grind (arith, nat_tests)
 
 pub any_into : (f : ℕ → Bool) (C codes : List ℕ) → any f (into C codes) ≡ (any f C || any f codes)
-any_into f C [] = sym (or_false (any f C))
+any_into f C [] = sym (or-false (any f C))
 any_into f C (x ∷ xs) = let ih = any_into f (insert x C) xs in let one = any_insert f x C in grind (arith, nat_tests)
 
 pub length_into : (C codes : List ℕ) → length (into C codes) ≡ length C + length codes
@@ -66,7 +68,7 @@ ascends_into C seen i (x ∷ xs) a same none =
     let new : any (λ y. eqb (choice y) (choice x)) seen ≡ false = grind (arith, nat_tests) in
     ascends_into (insert x C) (seen ++ x ∷ []) (i + 1) xs
     (ascends_insert x C a (same (λ y. eqb (choice y) (choice x)) ∙ new))
-    (λ f. let one = any_insert f x C in let old = same f in let more = any_append f seen (x ∷ []) in grind (arith, nat_tests))
+    (λ f. let one = any_insert f x C in let old = same f in let more = list_any-append f seen (x ∷ []) in grind (arith, nat_tests))
     (grind (arith, nat_tests))
 
 pub every_sorted : (f : ℕ → Bool) (codes : List ℕ) → every f (sorted codes) ≡ every f codes

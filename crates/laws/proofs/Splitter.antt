@@ -1,7 +1,7 @@
 -- The splitter: its search exists, is unique, and finds a plan exactly if there is one.
-use Rattle.std.proofs.Common.{◌≡◌, ℕ, zero, suc, ◌+◌, ◌<◌, ◌≤◌, true, false, eqb, ltb, leb, ◌↔◌, List, [], ◌∷◌, length, get_or, replicate, Some, None, All, Contains, Option, sym, refl, ap, ◌∙◌, subst, inl, inr, arith}
-use Rattle.std.proofs.lemmas.List.Elements.{All-nil, All-cons, Contains-get_or}
-use Rattle.std.proofs.lemmas.List.{length-replicate}
+use Rattle.std.proofs.Common.{◌≡◌, ℕ, zero, suc, ◌+◌, ◌<◌, ◌≤◌, true, false, ltb, leb, ◌↔◌, List, [], ◌∷◌, length, get_or, Some, None, Contains, Option, sym, refl, ap, ◌∙◌, subst, inl, inr, arith}
+use Rattle.std.proofs.lemmas.List.Elements.{All-replicate, Contains-get_or}
+use Rattle.std.proofs.lemmas.List.{length-replicate, nil_from_length}
 use Rattle.std.proofs.lemmas.Bool.{cases_Bool, cases_lt, cond_both, cond-true, cond-false, both_ways, eqb-true, ltb-true, ltb-false, le-leb, lt-leb, not_from_false}
 use Rattle.laws.specs.declared.fault.Fault.{Fault}
 use Rattle.laws.specs.Clauses.{true_in, all_true}
@@ -28,15 +28,11 @@ use Rattle.laws.proofs.Options.{no}
 use Rattle.laws.proofs.Setting.{set_back, set_possible, assigned_lawful, assign_occurs, assign_gone}
 use Rattle.laws.proofs.Solvers.{right_planned, right_never, right_refused}
 
--- a clause without literals
-length_zero : (C : List ℕ) → eqb (length C) 0 ≡ true → C ≡ []
-length_zero [] h = refl
-length_zero (l ∷ C) h = let z : suc (length C) ≡ 0 = eqb-true (suc (length C)) 0 h in absurd (omega arith)
-
+-- a test finds a clause without literals exactly if one stands among the clauses
 empty_stands : (Cs : List (List ℕ)) → any is_empty Cs ≡ true → Contains Cs []
 empty_stands Cs h =
     let at = any_witness is_empty Cs h in
-    subst (Contains Cs) (length_zero at.0 at.2) at.1
+    subst (Contains Cs) (nil_from_length at.0 (eqb-true (length at.0) 0 at.2)) at.1
 
 none_empty : (Cs : List (List ℕ)) → any is_empty Cs ≡ false → Contains Cs [] → ⊥
 none_empty Cs f stands = both_ways (any is_empty Cs) f (any_from is_empty Cs [] stands refl)
@@ -311,13 +307,9 @@ abbrev Right : Tab → Found → Type 0
 Right t (plan p k) = PlanOf t.last p × (all_true p t.clauses ≡ true)
 Right t (none k) = Possible t → ⊥
 
-zero_bytes : (k : ℕ) → All (λ b. b ≤ 1) (replicate k 0)
-zero_bytes zero = All-nil (λ b. b ≤ 1)
-zero_bytes (suc k) = All-cons (λ b. b ≤ 1) 0 (replicate k 0) (omega arith) (zero_bytes k)
-
 -- the plan that leaves out every choice is a plan
 pub blank_plan : (n : ℕ) → PlanOf n (blank n)
-blank_plan n = record { long = length-replicate (n + 1) 0; bytes = zero_bytes (n + 1) }
+blank_plan n = record { long = length-replicate (n + 1) 0; bytes = All-replicate (λ b. b ≤ 1) (n + 1) 0 (omega arith) }
 
 -- with an empty clause no plan makes the table true
 no_possible_empty : (t : Tab) → Contains t.clauses [] → Possible t → ⊥

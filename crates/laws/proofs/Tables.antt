@@ -1,13 +1,13 @@
 -- Tables that take a clause stay lawful.
 use Rattle.std.proofs.Common.{◌≡◌, ℕ, ◌+◌, ◌≤◌, true, leb, List, [], ◌∷◌, ◌++◌, length, None, refl, ◌∙◌, arith}
 use Rattle.std.proofs.lemmas.List.{length_push}
+use Rattle.std.proofs.lemmas.List.Folds.{list_all-append}
 use Rattle.std.proofs.lemmas.Bool.{leb-true, ltb-true, and_from}
 use Rattle.laws.specs.Lists.{every}
 use Rattle.laws.specs.Literals.{top}
 use Rattle.laws.specs.Clauses.{within, ascends, lawful, literals, sorted}
 use Rattle.laws.specs.Checks.{refusal, repeat_from, table_limits}
 use Rattle.laws.specs.Checked.{Taking}
-use Rattle.laws.proofs.Lists.{every_append}
 use Rattle.laws.proofs.Sorted.{every_sorted, length_sorted, ascends_sorted}
 use Rattle.laws.proofs.Checks.{passed, within_from_place}
 
@@ -29,7 +29,7 @@ module _ (n : ℕ) (Cs : List (List ℕ)) (codes : List ℕ) (none : refusal tab
   pub each_taken : every (lawful n) Cs ≡ true → every (lawful n) (Cs ++ sorted codes ∷ []) ≡ true
   each_taken h =
       let ok = passed table_limits n (length Cs) (literals Cs) codes none in
-      every_append (lawful n) Cs (sorted codes ∷ [])
+      list_all-append (lawful n) Cs (sorted codes ∷ [])
       ∙ and_from (every (lawful n) Cs) (every (lawful n) (sorted codes ∷ [])) h
       (and_from (lawful n (sorted codes)) true (lawful_sorted n codes (within_from_place n 0 codes ok.each) ok.once) refl)
 

@@ -3,6 +3,8 @@ pub mod Literals
 pub mod Clauses
 pub mod Tables
 pub mod Plans
+pub mod Numbers
+pub mod Meanings
 pub mod Faults
 pub mod Checks
 pub mod Sorted

@@ -1,21 +1,19 @@
 -- Tests over lists, and the place of the first element that passes one.
-use Rattle.std.specs.Prelude.{ℕ, ◌+◌, Bool, true, false, cond, ◌&&◌, ◌||◌, List, [], ◌∷◌, Some, None, Option, nat_eq}
+use Rattle.std.specs.Prelude.{ℕ, Bool, List, [], ◌∷◌, Some, None, Option, nat_eq}
+use Rattle.std.specs.List.{list_any, list_all, find, position_from}
 
 module _ {X : Type 0} where
   -- the test holds of some element
   abbrev pub any : (X → Bool) → List X → Bool
-  any f [] = false
-  any f (x ∷ xs) = f x || any f xs
+  any f xs = list_any f xs
 
   -- the test holds of each element
   abbrev pub every : (X → Bool) → List X → Bool
-  every f [] = true
-  every f (x ∷ xs) = f x && every f xs
+  every f xs = list_all f xs
 
   -- the place of the first element that passes the test, counted from i
   abbrev pub place_from : (X → Bool) → ℕ → List X → Option ℕ
-  place_from f i [] = None
-  place_from f i (x ∷ xs) = cond (f x) (Some i) (place_from f (i + 1) xs)
+  place_from f i xs = position_from f i xs
 
   -- the place of the first element that passes the test
   abbrev pub place : (X → Bool) → List X → Option ℕ
@@ -23,8 +21,7 @@ module _ {X : Type 0} where
 
   -- the first element that passes the test
   abbrev pub first : (X → Bool) → List X → Option X
-  first f [] = None
-  first f (x ∷ xs) = cond (f x) (Some x) (first f xs)
+  first f xs = find f xs
 
   -- the first answer, unless it is missing
   abbrev pub or_else : Option X → Option X → Option X

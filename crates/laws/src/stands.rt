@@ -1,4 +1,5 @@
-// The laws of this crate, each on the contract of a function: without its proof the crate is not built.
+// The laws of this crate, each on the contract of a function: without its proof the crate is not built. They differ in their
+// clause alone, which is no type parameter, so no generic function stands for them.
 ghost use Rattle.laws.specs.Blocked.{BlockedLaw};
 ghost use Rattle.laws.specs.Cases.{WorkedCases};
 ghost use Rattle.laws.specs.Checked.{Checking, Placing, Taking};

@@ -1,4 +1,4 @@
-pub mod Steps
 pub mod Searches
 pub mod Positions
 pub mod Growth
+pub mod Lengths

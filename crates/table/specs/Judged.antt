@@ -5,6 +5,10 @@ use Rattle.laws.specs.Faults.{fault}
 use Rattle.laws.specs.Lists.{first}
 use Rattle.laws.specs.Literals.{top, holds}
 
+-- a plan or a buffer of fewer bytes than are wanted is refused with 31
+abbrev pub enough : ℕ → List ℕ → Result (Unit {0}) Fault
+enough bytes p = cond (nat_lt (length p) bytes) (Err (fault 3 31 0)) (Ok tt)
+
 -- a plan of fewer bytes than there are choices is refused with 31; any other is judged
 abbrev pub judged : {X : Type 0} → ℕ → List ℕ → X → Result X Fault
 judged n p x = cond (nat_lt (length p) (n + 1)) (Err (fault 3 31 0)) (Ok x)

@@ -1,57 +1,48 @@
-// The checks that a clause meets before it is taken, in their order.
+// The checks that a clause meets before it is taken, in their order, and the check of a plan's length.
 ghost use Rattle.std.specs.Prelude.{◌≡◌, [], nat_lt};
 ghost use Rattle.laws.specs.Checks.{refusal, repeat_from};
-ghost use Rattle.laws.specs.Faults.{fault, passes};
+ghost use Rattle.laws.specs.Faults.{passes};
 ghost use Rattle.laws.specs.Lists.{place};
+ghost use Rattle.table.specs.Judged.{enough};
 ghost use Rattle.table.specs.Limited.{limits_of};
 
 use crate::clause::stands;
-use crate::literal::choice_of;
-use laws::Fault;
+use crate::literal::{choice_of, top};
+use laws::{Check, Fault, Layer};
 
 // Who checks, and how many clauses and literals may stand at most.
 #[derive(Clone, Copy)]
 pub(crate) struct Limits {
-    pub(crate) layer: u8,
+    pub(crate) layer: Layer,
     pub(crate) clauses: usize,
     pub(crate) literals: usize,
 }
 
-// A fault of a layer: its number and its place; depth and offset are 0.
-pub(crate) fn fault_of(layer: u8, number: u8, at: u16) -> Fault
-    ensures { result ≡ fault layer number at }
+// Refuses with 31 a plan or a buffer of fewer bytes than are wanted.
+pub fn check_buffer(plan: &[u8], bytes: usize) -> Result<(), Fault>
+    ensures { result ≡ enough bytes plan.now }
 {
-    Fault {
-        layer,
-        depth: 0,
-        number,
-        place: at,
-        offset: 0,
+    if plan.len() < bytes {
+        return Err(Fault::new(Layer::Pile, Check::PlanSize));
     }
+    Ok(())
 }
 
 // The place of the first code above `most`.
 fn first_above(codes: &[u16], most: u16) -> Option<usize>
     ensures { result ≡ place (λ l. nat_lt most l) codes.now }
 {
-    for (i, code) in codes.iter().enumerate() {
-        if most < *code {
-            return Some(i);
-        }
-    }
-    None
+    codes.iter().position(|code| most < *code)
 }
 
 // The place of the first code whose choice stands among those before it.
 fn first_repeated(codes: &[u16]) -> Option<usize>
     ensures { result ≡ repeat_from [] 0 codes.now }
 {
-    for i in 0..codes.len() {
-        if stands(&codes[0..i], choice_of(codes[i])) {
-            return Some(i);
-        }
-    }
-    None
+    codes
+        .iter()
+        .enumerate()
+        .position(|(i, code)| stands(&codes[0..i], choice_of(*code)))
 }
 
 // Whether codes pass as one more clause, where the last choice is `last` and so many clauses and literals stand:
@@ -66,19 +57,25 @@ pub(crate) fn check_codes(
     ensures { result ≡ passes (refusal (limits_of most.now) last clauses literals codes.now) }
 {
     if codes.is_empty() || codes.len() > 256 {
-        return Err(fault_of(most.layer, 11, 0));
+        return Err(Fault::new(most.layer, Check::ClauseSize));
     }
-    if let Some(at) = first_above(codes, 2 * last as u16 + 1) {
-        return Err(fault_of(most.layer, 12, at as u16));
+    if let Some(at) = first_above(codes, top(last)) {
+        return Err(Fault {
+            place: at as u16,
+            ..Fault::new(most.layer, Check::CodeRange)
+        });
     }
     if let Some(at) = first_repeated(codes) {
-        return Err(fault_of(most.layer, 13, at as u16));
+        return Err(Fault {
+            place: at as u16,
+            ..Fault::new(most.layer, Check::ChoiceOnce)
+        });
     }
     if clauses >= most.clauses {
-        return Err(fault_of(most.layer, 14, 0));
+        return Err(Fault::new(most.layer, Check::ClauseCount));
     }
     if codes.len() > most.literals || literals > most.literals - codes.len() {
-        return Err(fault_of(most.layer, 15, 0));
+        return Err(Fault::new(most.layer, Check::LiteralCount));
     }
     Ok(())
 }

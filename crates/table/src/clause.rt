@@ -8,23 +8,17 @@ ghost use Rattle.table.specs.Codes.{codes_of, rank_of};
 use crate::literal::{agrees, choice_of};
 use std::alloc::{AllocError, Global};
 
-#[derive(Drop)]
+#[derive(Clone, PartialEq, Eq, Debug, Drop)]
 pub struct Clause {
     pub codes: Vec<u16>,
 }
 
-// How many codes at the front are at most `code`: where it goes in ascending order.
+// How many codes at the front are at most `code`: where it goes in ascending order. No `partition_point`, which asks for codes in
+// order: this is promised of codes in any order.
 pub fn rank(codes: &[u16], code: u16) -> usize
     ensures { result ≡ rank_of code codes.now }
 {
-    let mut n = 0;
-    for x in codes {
-        if code < *x {
-            return n;
-        }
-        n += 1;
-    }
-    n
+    codes.iter().take_while(|x| **x <= code).count()
 }
 
 impl Clause {
@@ -32,12 +26,9 @@ impl Clause {
     pub(crate) fn sorted(heap: Global, codes: &[u16]) -> Result<Clause, AllocError>
         ensures { IfOk result (λ C. codes_of C ≡ sorted codes.now) }
     {
-        let mut out = Vec::new(heap);
-        for code in codes {
-            let at = rank(out.as_slice(), *code);
-            out.insert(at, *code)?;
-        }
-        Ok(Clause { codes: out })
+        let mut codes = Vec::from_slice(heap, codes)?;
+        codes.sort_unstable();
+        Ok(Clause { codes })
     }
 
     // Its codes, in ascending order.
@@ -51,19 +42,14 @@ impl Clause {
     pub(crate) fn agreeing(&self, plan: &[u8]) -> Option<u16>
         ensures { result ≡ first (holds plan.now) (codes_of self.now) }
     {
-        for code in self.codes.iter() {
-            if agrees(plan, *code) {
-                return Some(*code);
-            }
-        }
-        None
+        self.codes.iter().copied().find(|code| agrees(plan, *code))
     }
 
     // Whether the plan makes the clause true.
     pub(crate) fn is_true(&self, plan: &[u8]) -> bool
         ensures { result ≡ true_in plan.now (codes_of self.now) }
     {
-        self.agreeing(plan).is_some()
+        self.codes.iter().any(|code| agrees(plan, *code))
     }
 
     // Whether one of the literals speaks of choice `c`.
@@ -78,10 +64,5 @@ impl Clause {
 pub(crate) fn stands(codes: &[u16], c: u16) -> bool
     ensures { result ≡ any (λ l. nat_eq (choice l) c) codes.now }
 {
-    for code in codes {
-        if choice_of(*code) == c {
-            return true;
-        }
-    }
-    false
+    codes.iter().any(|code| choice_of(*code) == c)
 }

@@ -7,7 +7,8 @@ mod error;
 mod literal;
 mod table;
 
+pub use checks::check_buffer;
 pub use clause::{Clause, rank};
 pub use error::Error;
-pub use literal::{choice_of, takes};
-pub use table::Table;
+pub use literal::{choice_of, leaving, takes, taking, top};
+pub use table::{MOST_CLAUSES, MOST_LITERALS, Table};

@@ -11,6 +11,12 @@ mod reads;
 mod takes;
 mod truth;
 
+// How many clauses a table has at most.
+pub const MOST_CLAUSES: usize = 1024;
+
+// How many literals stand in all its clauses at most.
+pub const MOST_LITERALS: usize = 8192;
+
 // Clauses over the choices 0 to `last`, at positions 0, 1 and on (a formula in conjunctive normal form).
 // Every table is lawful: in each clause the choices ascend and none stands twice, no code is above 2 × last + 1,
 // and there are at most 1,024 clauses and 8,192 literals.

@@ -1,5 +1,5 @@
 // What a table holds.
-ghost use Rattle.std.specs.Prelude.{◌≡◌, length};
+ghost use Rattle.std.specs.Prelude.{◌≡◌, ◌+◌, length};
 ghost use Rattle.std.specs.List.{slice_get};
 ghost use Rattle.std.specs.Option.{option_map};
 ghost use Rattle.laws.specs.Clauses.{literals};
@@ -19,6 +19,14 @@ impl Table {
         self.last
     }
 
+    // How many choices there are, from 0 to the last.
+    pub fn choice_count(&self) -> usize
+        ensures count { result ≡ (tab_of self.now).last + 1 }
+        ensures lawful { Lawful (tab_of self.now) }
+    {
+        usize::from(self.last) + 1
+    }
+
     // How many clauses there are.
     pub fn clause_count(&self) -> usize
         ensures { result ≡ length (clauses_of self.now) }
@@ -30,11 +38,7 @@ impl Table {
     pub fn literal_count(&self) -> usize
         ensures { result ≡ literals (clauses_of self.now) }
     {
-        let mut n = 0;
-        for clause in self.clauses.iter() {
-            n += clause.codes().len();
-        }
-        n
+        self.clauses.iter().map(|clause| clause.codes().len()).sum()
     }
 
     // The clause at a position, or none past the end.
@@ -48,11 +52,6 @@ impl Table {
     pub fn occurs(&self, c: u8) -> bool
         ensures { result ≡ occurs_in c (clauses_of self.now) }
     {
-        for clause in self.clauses.iter() {
-            if clause.speaks_of(c as u16) {
-                return true;
-            }
-        }
-        false
+        self.clauses.iter().any(|clause| clause.speaks_of(c as u16))
     }
 }

@@ -3,10 +3,11 @@ ghost use Rattle.std.specs.Prelude.{◌≡◌};
 ghost use Rattle.laws.specs.Tables.{empty};
 ghost use Rattle.table.specs.Held.{tab_of, Taken};
 
-use super::Table;
+use super::{MOST_CLAUSES, MOST_LITERALS, Table};
 use crate::checks::{Limits, check_codes};
 use crate::clause::Clause;
 use crate::error::Error;
+use laws::Layer;
 use std::alloc::Global;
 
 impl Table {
@@ -27,9 +28,9 @@ impl Table {
         ensures came { Taken (tab_of self.old) codes.now result (tab_of self.new) }
     {
         let most = Limits {
-            layer: 3,
-            clauses: 1024,
-            literals: 8192,
+            layer: Layer::Pile,
+            clauses: MOST_CLAUSES,
+            literals: MOST_LITERALS,
         };
         check_codes(
             codes,

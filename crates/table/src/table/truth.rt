@@ -9,19 +9,16 @@ ghost use Rattle.table.specs.Held.{clauses_of};
 ghost use Rattle.table.specs.Judged.{judged, judged_literal, agreeing_of};
 
 use super::Table;
-use crate::checks::fault_of;
-use crate::literal::agrees;
-use laws::Fault;
+use crate::checks::check_buffer;
+use crate::literal::{agrees, top};
+use laws::{Check, Fault, Layer};
 
 impl Table {
     // Refuses a plan of fewer than last + 1 bytes.
     fn check_plan(&self, plan: &[u8]) -> Result<(), Fault>
         ensures { result ≡ judged self.now.last plan.now tt }
     {
-        if plan.len() < self.last as usize + 1 {
-            return Err(fault_of(3, 31, 0));
-        }
-        Ok(())
+        check_buffer(plan, self.choice_count())
     }
 
     // Whether a literal agrees with the plan. A code above 2 × last + 1 is refused with 12.
@@ -29,8 +26,8 @@ impl Table {
         ensures { result ≡ judged_literal self.now.last plan.now code }
     {
         self.check_plan(plan)?;
-        if code > 2 * self.last as u16 + 1 {
-            return Err(fault_of(3, 12, 0));
+        if code > top(self.last) {
+            return Err(Fault::new(Layer::Pile, Check::CodeRange));
         }
         Ok(agrees(plan, code))
     }
@@ -41,10 +38,11 @@ impl Table {
         ensures { result ≡ judged self.now.last plan.now (agreeing_of plan.now (slice_get (clauses_of self.now) at)) }
     {
         self.check_plan(plan)?;
-        match self.clauses.get(at) {
-            Some(clause) => Ok(clause.agreeing(plan)),
-            None => Ok(None),
-        }
+        Ok(
+            self.clauses
+                .get(at)
+                .and_then(|clause| clause.agreeing(plan)),
+        )
     }
 
     // Whether the plan makes the clause at a position true; none past the end.
@@ -52,10 +50,7 @@ impl Table {
         ensures { result ≡ judged self.now.last plan.now (option_map (true_in plan.now) (slice_get (clauses_of self.now) at)) }
     {
         self.check_plan(plan)?;
-        match self.clauses.get(at) {
-            Some(clause) => Ok(Some(clause.is_true(plan))),
-            None => Ok(None),
-        }
+        Ok(self.clauses.get(at).map(|clause| clause.is_true(plan)))
     }
 
     // The position of the first clause that the plan makes false.
@@ -63,20 +58,15 @@ impl Table {
         ensures { result ≡ judged self.now.last plan.now (place (λ C. not (true_in plan.now C)) (clauses_of self.now)) }
     {
         self.check_plan(plan)?;
-        for (i, clause) in self.clauses.iter().enumerate() {
-            if !clause.is_true(plan) {
-                return Ok(Some(i));
-            }
-        }
-        Ok(None)
+        Ok(self.clauses.iter().position(|clause| !clause.is_true(plan)))
     }
 
     // Whether the plan makes every clause true.
     pub fn is_true(&self, plan: &[u8]) -> Result<bool, Fault>
         ensures { result ≡ judged self.now.last plan.now (all_true plan.now (clauses_of self.now)) }
     {
-        let found = self.first_false(plan)?;
-        Ok(found.is_none())
+        self.check_plan(plan)?;
+        Ok(self.clauses.iter().all(|clause| clause.is_true(plan)))
     }
 
     // How many clauses the plan makes false.
@@ -84,12 +74,11 @@ impl Table {
         ensures { result ≡ judged self.now.last plan.now (broken plan.now (clauses_of self.now)) }
     {
         self.check_plan(plan)?;
-        let mut n = 0;
-        for clause in self.clauses.iter() {
-            if !clause.is_true(plan) {
-                n += 1;
-            }
-        }
-        Ok(n)
+        Ok(
+            self.clauses
+                .iter()
+                .filter(|clause| !clause.is_true(plan))
+                .count(),
+        )
     }
 }

@@ -1,19 +1,19 @@
--- The table is true exactly if it has no first false clause.
-use Rattle.std.proofs.Common.{not, map, is_some, Ok, sym, ap, ◌∙◌}
-use mathlib.Core.Bool.{not-not}
+-- Every clause is true exactly if the codes of each are.
+use Rattle.std.proofs.Common.{map, Ok, ap, ◌∙◌, rules, tests}
+use Rattle.std.proofs.lemmas.Iterator.{YieldsList-from_slice}
+use Rattle.std.proofs.lemmas.Iterator.Search.{all_from_yields_List}
 use Rattle.laws.specs.Clauses.{true_in}
-use Rattle.laws.specs.Lists.{place}
+use Rattle.laws.specs.Lists.{every}
+use Rattle.laws.proofs.Lists.{every_map}
 use Rattle.table.specs.Codes.{codes_of}
-use Rattle.table.specs.Judged.{judged}
 use Rattle.table.proofs.Positions.{judged_with}
-use Rattle.table.proofs.Searches.{none_place}
 use Rattle.table.proofs.table.Table.is_true.Goals as goal
 
 pub returns : goal.returns
 returns c =
-    let t = c.args.self.now in
+    let Cs = c.args.self.now.clauses.items in
     let p = c.args.plan.now in
-    let Cs = map codes_of t.clauses.items in
-    ap Ok (sym (not-not c.is_none.result) ∙ ap not (sym c.is_none.ensures))
-    ∙ judged_with (λ o. not (is_some o)) t.last p c.in_ok-found.found (place (λ C. not (true_in p C)) Cs) c.in_ok-found.ensures
-    ∙ ap (judged t.last p) (none_place (true_in p) 0 Cs)
+    ap Ok (all_from_yields_List (λ C. true_in p (codes_of C)) _ _ c.all.result c.all.ensures.ran
+    (YieldsList-from_slice Cs cc) (λ x b q k. search (rules, tests))
+    ∙ every_map (true_in p) codes_of Cs)
+    ∙ judged_with (λ _. every (true_in p) (map codes_of Cs)) c.args.self.now.last p tt tt c.in_ok-check_plan.ensures

@@ -4,6 +4,7 @@
 mod blocked;
 mod codes;
 mod lone;
+mod occurrence;
 mod occurring;
 mod trimmed;
 

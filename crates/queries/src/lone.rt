@@ -9,11 +9,11 @@ use table::Table;
 pub fn first_lone(table: &Table) -> Option<u16>
     ensures { result ≡ lone_in (clauses_of table.now) }
 {
-    for clause in table.clauses.iter() {
-        let codes = clause.codes();
-        if codes.len() == 1 {
-            return Some(codes[0]);
-        }
-    }
-    None
+    table
+        .clauses
+        .iter()
+        .find_map(|clause| match clause.codes() {
+            [only] => Some(*only),
+            _ => None,
+        })
 }

@@ -11,37 +11,25 @@ use table::Table;
 pub fn count_of(table: &Table, code: u16) -> usize
     ensures { result ≡ occurrences code (clauses_of table.now) }
 {
-    let mut n = 0;
-    for clause in table.clauses.iter() {
-        if stands_in(clause.codes(), code) {
-            n += 1;
-        }
-    }
-    n
+    table
+        .clauses
+        .iter()
+        .filter(|clause| stands_in(clause.codes(), code))
+        .count()
 }
 
 // How many choices occur.
 pub fn occurring_count(table: &Table) -> usize
     ensures { result ≡ occurring_count (tab_of table.now) }
 {
-    let mut count = 0;
-    for c in 0..table.last as u16 + 1 {
-        if table.occurs(c as u8) {
-            count += 1;
-        }
-    }
-    count
+    (0..=table.last).filter(|c| table.occurs(*c)).count()
 }
 
 // The choices that occur, in ascending order.
 pub fn occurring_choices(table: &Table) -> Result<Vec<u8>, AllocError>
     ensures { IfOk result (λ v. v.items ≡ occurring table.now.last (clauses_of table.now)) }
 {
-    let mut out = Vec::new(table.heap);
-    for c in 0..table.last as u16 + 1 {
-        if table.occurs(c as u8) {
-            out.push(c as u8)?;
-        }
-    }
-    Ok(out)
+    (0..=table.last)
+        .filter(|c| table.occurs(*c))
+        .collect(table.heap)
 }

@@ -1,40 +1,18 @@
--- One turn asks one clause: it does not let the codes be blocked, or it depends on those behind it.
-use Rattle.std.proofs.Common.{◌≡◌, ℕ, Bool, not, ◌||◌, List, map, sym, ap, ◌∙◌}
-use Rattle.laws.specs.Blocked.{hinders, blocks}
-use Rattle.laws.specs.Lists.{every, has}
+-- A clause lets the codes be blocked exactly if its codes do.
+use Rattle.std.proofs.Common.{ℕ, Bool, not, ◌||◌, List, ◌∙◌, rules, tests}
+use Rattle.std.proofs.lemmas.Iterator.{YieldsList-from_slice}
+use Rattle.std.proofs.lemmas.Iterator.Search.{all_from_yields_List}
+use Rattle.laws.specs.Blocked.{hinders}
+use Rattle.laws.specs.Lists.{has}
 use Rattle.laws.specs.Literals.{neg}
-use Rattle.std.proofs.lemmas.List.{at_drop_all}
+use Rattle.laws.proofs.Lists.{every_map}
 use Rattle.table.specs.Codes.{codes_of}
-use Rattle.queries.proofs.Turns.{every_here, every_later, every_map}
 use Rattle.queries.proofs.blocked.is_blocked.Goals as goal
-
--- what is asked of each clause
-abbrev lets : List ℕ → ℕ → List ℕ → Bool
-lets C a D = not (has (neg a) D) || hinders C a D
-
-pub loop-clause-init : goal.loop-clause-init
-loop-clause-init c =
-    let C = c.args.codes.now in
-    every_map codes_of (lets C c.args.code) c.deref-clause-items.result.now
-    ∙ ap (λ ds. blocks (map codes_of ds) C c.args.code) c.deref-clause-items.ensures.value
-
-pub returns-then-not-lets_block : goal.returns-then-not-lets_block
-returns-then-not-lets_block c =
-    let D = c.clause-item.result in
-    let f = lets c.args.codes.now c.args.code in
-    let is : c.lets_block.result ≡ f c.codes.result.now = c.lets_block.ensures in
-    every_here c.deref-clause-items.result.now c.loop-clause.clause-index D D c.loop-clause-test.true c.clause-item.is
-    (λ E. f (codes_of E)) _ c.loop-clause.invariant (ap f (sym c.codes.ensures) ∙ sym is ∙ c.if-not-lets_block.true)
-
-pub loop-clause-preserved : goal.loop-clause-preserved
-loop-clause-preserved c =
-    let D = c.clause-item.result in
-    let f = lets c.args.codes.now c.args.code in
-    let is : c.lets_block.result ≡ f c.codes.result.now = c.lets_block.ensures in
-    every_later c.deref-clause-items.result.now c.loop-clause.clause-index D D c.loop-clause-test.true c.clause-item.is
-    (λ E. f (codes_of E)) _ c.loop-clause.invariant (ap f (sym c.codes.ensures) ∙ sym is ∙ c.if-not-lets_block.false)
 
 pub returns : goal.returns
 returns c =
-    sym (at_drop_all (every (λ E. lets c.args.codes.now c.args.code (codes_of E))) c.deref-clause-items.result.now c.loop-clause.clause-index c.loop-clause-test.false)
-    ∙ c.loop-clause.invariant
+    let Cs = c.args.table.now.clauses.items in
+    let lets : List ℕ → Bool = λ D. not (has (neg c.args.code) D) || hinders c.args.codes.now c.args.code D in
+    all_from_yields_List (λ C. lets (codes_of C)) _ _ c.all.result c.all.ensures.ran
+    (YieldsList-from_slice Cs cc) (λ x b q k. search (rules, tests))
+    ∙ every_map lets codes_of Cs

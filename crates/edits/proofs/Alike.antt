@@ -1,6 +1,7 @@
 -- What the loops leave is what the definitions say: a literal is deleted by setting its negation, and the clauses of a
 -- choice are those that contain one of its two literals.
 use Rattle.std.proofs.Common.{◌≡◌, ℕ, ◌+◌, ◌*◌, ◌<◌, Bool, not, ◌||◌, eqb, List, [], ◌∷◌, map, length, get_or, set, filter, sym, refl, ap, ◌∙◌, ap₂, arith}
+use Rattle.std.proofs.lemmas.List.Elements.{filter_agree}
 use Rattle.std.proofs.lemmas.List.{get_or-map, map-set}
 use Rattle.std.proofs.lemmas.Bool.Decides.{nat_tests}
 use Rattle.laws.specs.Lists.{any, has}
@@ -10,7 +11,6 @@ use Rattle.laws.specs.Setting.{meets, strip, assign}
 use Rattle.laws.specs.Trim.{without, deleted_at}
 use Rattle.table.specs.declared.clause.Clause.{Clause}
 use Rattle.table.specs.Codes.{codes_of}
-use Rattle.edits.proofs.Lists.{kept_by_same}
 
 -- the clauses that contain none of the literals, each stripped, are those with the literals set
 assign_parts : (ws : List ℕ) (Cs : List (List ℕ)) → map (strip ws) (filter (λ C. not (meets ws C)) Cs) ≡ assign ws Cs
@@ -26,7 +26,7 @@ negation_stands : (x l : ℕ) → has (neg l) (neg x ∷ []) ≡ eqb l x
 negation_stands x l = grind (arith, nat_tests)
 
 pub strip_one : (x : ℕ) (C : List ℕ) → strip (neg x ∷ []) C ≡ without x C
-strip_one x C = kept_by_same (λ l. not (has (neg l) (neg x ∷ []))) (λ l. not (eqb l x)) (λ l. ap not (negation_stands x l)) C
+strip_one x C = filter_agree (λ l. not (has (neg l) (neg x ∷ []))) (λ l. not (eqb l x)) (λ l. ap not (negation_stands x l)) C
 
 of_choice : (c l : ℕ) → has l (2 * c ∷ (2 * c + 1) ∷ []) ≡ eqb (choice l) c
 of_choice c l = grind (arith, nat_tests)
@@ -37,7 +37,7 @@ any_same f g e (x ∷ xs) = ap₂ ◌||◌ (e x) (any_same f g e xs)
 
 pub others_meeting : (c : ℕ) (Cs : List (List ℕ)) → filter (λ C. not (meets (2 * c ∷ (2 * c + 1) ∷ []) C)) Cs ≡ others c Cs
 others_meeting c Cs =
-    kept_by_same (λ C. not (meets (2 * c ∷ (2 * c + 1) ∷ []) C)) (λ C. not (any (λ l. eqb (choice l) c) C))
+    filter_agree (λ C. not (meets (2 * c ∷ (2 * c + 1) ∷ []) C)) (λ C. not (any (λ l. eqb (choice l) c) C))
     (λ C. ap not (any_same (λ l. has l (2 * c ∷ (2 * c + 1) ∷ [])) (λ l. eqb (choice l) c) (of_choice c) C)) Cs
 
 -- a clause from which a literal was deleted, put in the place of the one that was read

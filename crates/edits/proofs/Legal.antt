@@ -3,13 +3,14 @@ use Rattle.std.proofs.Common.{◌≡◌, ℕ, ◌+◌, ◌<◌, ◌≤◌, Bool,
 use Rattle.std.specs.declared.alloc.Global.{Global}
 use Rattle.std.specs.List.{remove}
 use Rattle.std.proofs.lemmas.List.{length-map, length_push, length-set}
+use Rattle.std.proofs.lemmas.List.Folds.{list_all-append}
 use Rattle.std.proofs.lemmas.Bool.{and_parts, and_from, ltb-true, leb-true}
 use Rattle.laws.specs.Clauses.{lawful, literals}
 use Rattle.laws.specs.Lists.{every}
 use Rattle.laws.specs.Setting.{assign}
 use Rattle.laws.specs.Trim.{without, deleted_at}
 use Rattle.laws.proofs.Kept.{every_kept_by, lawful_kept_by, literals_kept_by, length_kept_by_le}
-use Rattle.laws.proofs.Lists.{every_append, every_get_d}
+use Rattle.laws.proofs.Lists.{every_get_d}
 use Rattle.laws.proofs.Replaced.{every_removed, every_set, length_removed_le, literals_removed, literals_set}
 use Rattle.laws.proofs.Setting.{every_assign, length_assign_le, literals_assign_le}
 use Rattle.laws.proofs.Tables.{literals_push}
@@ -86,5 +87,5 @@ module _ (n : ℕ) (Cs : List (List ℕ)) (ok : Legal n Cs) where
       record {
         few = omega (arith, length_push Cs D, ltb-true (length Cs) 1024 room.0);
         small = omega (arith, literals_push Cs D, leb-true (literals Cs + length D) 8192 room.1);
-        each = every_append (lawful n) Cs (D ∷ []) ∙ and_from (every (lawful n) Cs) (every (lawful n) (D ∷ [])) ok.each (and_from (lawful n D) true parts.0 refl);
+        each = list_all-append (lawful n) Cs (D ∷ []) ∙ and_from (every (lawful n) Cs) (every (lawful n) (D ∷ [])) ok.each (and_from (lawful n D) true parts.0 refl);
       }

@@ -4,16 +4,15 @@ ghost use Rattle.table.specs.Codes.{codes_of};
 ghost use Rattle.table.specs.Held.{tab_of};
 ghost use Rattle.edits.specs.Growth.{Appended};
 
-use crate::clauses::copy_clauses;
 use crate::codes::is_lawful;
 use std::alloc::AllocError;
-use table::{Clause, Table};
+use table::{Clause, MOST_CLAUSES, MOST_LITERALS, Table};
 
-// The table again, in memory of its own.
+// The table again, in memory of its own. A table has ghost fields, so it can derive no `Clone`.
 pub fn copy(table: &Table) -> Result<Table, AllocError>
     ensures { IfOk result (λ u. tab_of u ≡ tab_of table.now) }
 {
-    let clauses = copy_clauses(table.heap, &table.clauses)?;
+    let clauses = table.clauses.clone()?;
     Ok(Table {
         heap: table.heap,
         last: table.last,
@@ -22,15 +21,15 @@ pub fn copy(table: &Table) -> Result<Table, AllocError>
 }
 
 // The clause behind the others, and true, if the table stays lawful with it; otherwise false, and the table stays.
-// Want of memory leaves the table.
+// Want of memory leaves the table. The answer is a `bool`, as of a set's `insert`, since nothing is refused here.
 pub fn append(table: &mut Table, clause: Clause) -> Result<bool, AllocError>
     ensures came { Appended (tab_of table.old) (codes_of clause) result (tab_of table.new) }
 {
     let size = clause.codes().len();
-    if !is_lawful(clause.codes(), table.last) || table.clause_count() >= 1024 {
+    if !is_lawful(clause.codes(), table.last) || table.clause_count() >= MOST_CLAUSES {
         return Ok(false);
     }
-    if size > 8192 || table.literal_count() > 8192 - size {
+    if size > MOST_LITERALS || table.literal_count() > MOST_LITERALS - size {
         return Ok(false);
     }
     table.clauses.push(clause)?;

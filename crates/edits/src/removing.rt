@@ -8,7 +8,7 @@ ghost use Rattle.table.specs.Held.{tab_of, clauses_of};
 use crate::clauses::drop_meeting;
 use crate::codes::strip_codes;
 use queries::negation_of;
-use table::Table;
+use table::{Table, leaving, taking};
 
 // Removes the clause at a position; past the end nothing is.
 pub fn remove_at(table: &mut Table, at: usize)
@@ -32,6 +32,5 @@ pub fn delete_at(table: &mut Table, at: usize, code: u16)
 pub fn drop_choice(table: &mut Table, c: u8)
     ensures { tab_of table.new ≡ record { last = (tab_of table.old).last; clauses = others c (clauses_of table.old) } }
 {
-    let taking = 2 * c as u16;
-    drop_meeting(&mut table.clauses, &[taking, taking + 1]);
+    drop_meeting(&mut table.clauses, &[taking(c), leaving(c)]);
 }

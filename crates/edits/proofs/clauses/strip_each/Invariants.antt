@@ -4,7 +4,7 @@ use Rattle.laws.specs.Setting.{strip}
 use Rattle.table.specs.Codes.{codes_of}
 use Rattle.edits.proofs.clauses.strip_each.Given as goal
 
-abbrev pub invariant-loop-i : goal.invariant-loop-i
-invariant-loop-i l =
-    map codes_of l.clauses.items
-    ≡ map (strip l.set) (take l.i (map codes_of l.initial.clauses.items)) ++ drop l.i (map codes_of l.initial.clauses.items)
+abbrev pub invariant-loop-clause : goal.invariant-loop-clause
+invariant-loop-clause l =
+    map codes_of l.clause-items
+    ≡ map (strip l.set) (take l.clause-index (map codes_of l.fn.clauses.items)) ++ drop l.clause-index (map codes_of l.fn.clauses.items)

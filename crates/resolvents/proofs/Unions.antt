@@ -1,15 +1,19 @@
 -- What a union holds, and how many literals a resolvent has.
-use Rattle.std.proofs.Common.{◌≡◌, ℕ, ◌+◌, true, false, cond, not, ◌&&◌, ◌||◌, eqb, ltb, List, [], ◌∷◌, length, count_by, sym, refl, ap, ◌∙◌, inl, inr, arith}
+use Rattle.std.proofs.Common.{◌≡◌, ℕ, ◌+◌, true, false, cond, not, ◌&&◌, ◌||◌, eqb, ltb, List, [], ◌∷◌, ◌++◌, length, count_by, sym, refl, ap, ◌∙◌, inl, inr, arith}
 use Rattle.std.proofs.lemmas.List.Sums.{sum_by-cons}
 use Rattle.std.proofs.lemmas.Bool.{and_parts, and_left, or_from, both_ways, cases_Bool, ne_eqb, ltb-true, cond-true, cond-false, cond_both, not-false, not_from_true, not_from_false}
 use Rattle.laws.specs.Clauses.{ascends, insert}
 use Rattle.laws.specs.Lists.{every, has}
 use Rattle.laws.specs.Literals.{choice}
 use Rattle.laws.specs.Resolving.{apart, join, union, resolvent}
-use Rattle.laws.proofs.Lists.{or_false}
+use Rattle.std.proofs.Math.Bool.{or-false}
 use Rattle.laws.proofs.Resolving.{any_union}
 use Rattle.laws.proofs.Sorted.{length_insert}
-use Rattle.table.proofs.Steps.{or_next}
+
+-- what is added last stands first
+pub union_push : (y : ℕ) (C xs : List ℕ) → union C (xs ++ y ∷ []) ≡ union (join y C) xs
+union_push y C [] = refl
+union_push y C (x ∷ xs) = ap (join x) (union_push y C xs)
 
 -- a literal of another choice than c stands among those apart from c exactly if it stands at all
 has_apart : (c l : ℕ) (C : List ℕ) → eqb (choice l) c ≡ false → has l (apart c C) ≡ has l C
@@ -18,7 +22,7 @@ has_apart c l (x ∷ xs) o =
     let ih = has_apart c l xs o in
     cond_both (not (eqb (choice x) c)) (x ∷ apart c xs) (apart c xs) (λ D. has l D ≡ (eqb x l || has l xs))
     (λ p. ap (λ b. eqb x l || b) ih)
-    (λ p. ih ∙ sym (or_next (eqb x l) (has l xs) (ne_eqb x l (λ e. both_ways (eqb (choice l) c) o (ap (λ z. eqb (choice z) c) (sym e) ∙ not-false (eqb (choice x) c) p)))))
+    (λ p. ih ∙ sym (ap (λ b. b || has l xs) (ne_eqb x l (λ e. both_ways (eqb (choice l) c) o (ap (λ z. eqb (choice z) c) (sym e) ∙ not-false (eqb (choice x) c) p)))))
 
 -- a literal whose choice is below all others does not stand among them
 not_behind : (y : ℕ) (ys : List ℕ) → every (λ z. ltb (choice y) (choice z)) ys ≡ true → has y ys ≡ false
@@ -46,7 +50,7 @@ length_resolvent c C (y ∷ ys) a =
           let same = cond-true (not (eqb (choice y) c)) (y ∷ apart c ys) (apart c ys) other in
           let here : has y U ≡ has y C =
           any_union (λ z. eqb z y) (apart c C) (apart c ys) ∙ ap (λ b. b || has y (apart c ys)) (has_apart c y C n)
-          ∙ ap (λ b. has y C || b) (has_apart c y ys n ∙ not_behind y ys up.0) ∙ or_false (has y C) in
+          ∙ ap (λ b. has y C || b) (has_apart c y ys n ∙ not_behind y ys up.0) ∙ or-false (has y C) in
           let more = ap (λ b. cond {A = ℕ} (b && not (has y C)) 1 0) other in
           let grown : length (join y U) ≡ length U + cond {A = ℕ} (not (has y C)) 1 0 =
           cond_both (has y U) U (insert y U) (λ D. length D ≡ length U + cond {A = ℕ} (not (has y C)) 1 0)

@@ -1,40 +1,25 @@
 // All resolvents of a choice.
-ghost use Rattle.std.specs.Prelude.{◌≡◌, [], ◌∷◌, ◌++◌, map, IfOk, OnOk};
+ghost use Rattle.std.specs.Prelude.{◌≡◌, ◌++◌, map, IfOk, OnOk};
 ghost use Rattle.laws.specs.Literals.{leaving};
 ghost use Rattle.laws.specs.Resolving.{holding, resolvents_of, resolvents as resolvents_by};
 ghost use Rattle.table.specs.Codes.{codes_of};
 ghost use Rattle.table.specs.Held.{clauses_of};
 
-use crate::pair::{clashes, resolvent};
+use crate::pair::{have_resolvent, resolvent};
 use queries::stands_in;
-use std::alloc::{AllocError, Global};
-use table::{Clause, Table};
-
-// Pushes the resolvent of two clauses, unless they clash.
-fn push_resolvent(
-    heap: Global,
-    c: u8,
-    first: &[u16],
-    second: &[u16],
-    out: &mut Vec<Clause>,
-) -> Result<(), AllocError>
-    ensures { OnOk result (map codes_of out.new.items ≡ map codes_of out.old.items ++ resolvents_of c first.now (second.now ∷ [])) }
-{
-    if clashes(c as u16, first, second) {
-        return Ok(());
-    }
-    let clause = resolvent(heap, c as u16, first, second)?;
-    out.push(clause)?;
-    Ok(())
-}
+use std::alloc::AllocError;
+use table::{Clause, Table, taking};
 
 // Pushes the resolvents of one clause with each clause of the table that leaves out `c`.
 fn push_each(table: &Table, c: u8, first: &[u16], out: &mut Vec<Clause>) -> Result<(), AllocError>
     ensures { OnOk result (map codes_of out.new.items ≡ map codes_of out.old.items ++ resolvents_of c first.now (holding (leaving c) (clauses_of table.now))) }
 {
+    // no chain, here or below: a `try_collect` makes a vector for each clause, and one for all is wanted
     for second in table.clauses.iter() {
-        if stands_in(second.codes(), 2 * c as u16 + 1) {
-            push_resolvent(table.heap, c, first, second.codes(), out)?;
+        let codes = second.codes();
+        if have_resolvent(c, first, codes) {
+            let clause = resolvent(table.heap, c as u16, first, codes)?;
+            out.push(clause)?;
         }
     }
     Ok(())
@@ -47,8 +32,9 @@ pub fn resolvents(table: &Table, c: u8) -> Result<Vec<Clause>, AllocError>
 {
     let mut out = Vec::new(table.heap);
     for first in table.clauses.iter() {
-        if stands_in(first.codes(), 2 * c as u16) {
-            push_each(table, c, first.codes(), &mut out)?;
+        let codes = first.codes();
+        if stands_in(codes, taking(c)) {
+            push_each(table, c, codes, &mut out)?;
         }
     }
     Ok(out)

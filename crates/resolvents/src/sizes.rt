@@ -1,40 +1,13 @@
 // How many resolvents a choice has, and how many literals they hold together, without building them.
-ghost use Rattle.std.specs.Prelude.{◌≡◌, ◌+◌, ◌≤◌, true, not, ◌&&◌, length, count_by, ◌==◌};
+ghost use Rattle.std.specs.Prelude.{◌≡◌, ◌+◌, ◌≤◌, true, length};
 ghost use Rattle.laws.specs.Clauses.{ascends, literals};
-ghost use Rattle.laws.specs.Lists.{has};
-ghost use Rattle.laws.specs.Literals.{choice, leaving};
+ghost use Rattle.laws.specs.Literals.{leaving};
 ghost use Rattle.laws.specs.Resolving.{holding, resolvent, resolvents_of, resolvents};
 ghost use Rattle.table.specs.Held.{clauses_of};
 
-use crate::pair::clashes;
+use crate::pair::have_resolvent;
 use queries::stands_in;
-use table::{Table, choice_of};
-
-// How many of the codes are of another choice than `c`.
-fn others_len(c: u16, codes: &[u16]) -> usize
-    ensures { result ≡ count_by (λ l. not (choice l == c)) codes.now }
-{
-    let mut n = 0;
-    for x in codes {
-        if choice_of(*x) != c {
-            n += 1;
-        }
-    }
-    n
-}
-
-// How many codes of `second` are of another choice than `c` and do not stand in `first`.
-fn added_len(c: u16, first: &[u16], second: &[u16]) -> usize
-    ensures { result ≡ count_by (λ l. not (choice l == c) && not (has l first.now)) second.now }
-{
-    let mut n = 0;
-    for x in second {
-        if choice_of(*x) != c && !stands_in(first, *x) {
-            n += 1;
-        }
-    }
-    n
-}
+use table::{Table, choice_of, taking};
 
 // How many literals the resolvent of two clauses has.
 fn resolvent_len(c: u16, first: &[u16], second: &[u16]) -> usize
@@ -44,7 +17,12 @@ fn resolvent_len(c: u16, first: &[u16], second: &[u16]) -> usize
     ensures value { result ≡ length (resolvent c first.now second.now) }
     ensures bound { result ≤ 16384 }
 {
-    others_len(c, first) + added_len(c, first, second)
+    let own = first.iter().filter(|code| choice_of(**code) != c).count();
+    let added = second
+        .iter()
+        .filter(|code| choice_of(**code) != c && !stands_in(first, **code))
+        .count();
+    own + added
 }
 
 // The number and the literals of the resolvents of one clause with each clause of the table that leaves out `c`.
@@ -57,9 +35,10 @@ fn sizes_with(table: &Table, c: u8, first: &[u16]) -> (usize, usize)
 {
     let mut n = 0;
     let mut m = 0;
+    // no `fold`: its closure does not know that the clause is the table's, so the sums' bounds did not prove
     for second in table.clauses.iter() {
         let codes = second.codes();
-        if stands_in(codes, 2 * c as u16 + 1) && !clashes(c as u16, first, codes) {
+        if have_resolvent(c, first, codes) {
             n += 1;
             m += resolvent_len(c as u16, first, codes);
         }
@@ -74,9 +53,11 @@ pub fn resolvents_size(table: &Table, c: u8) -> (usize, usize)
 {
     let mut n = 0;
     let mut m = 0;
+    // no `fold`: as above, its closure would not know that the clause is the table's
     for first in table.clauses.iter() {
-        if stands_in(first.codes(), 2 * c as u16) {
-            let sizes = sizes_with(table, c, first.codes());
+        let codes = first.codes();
+        if stands_in(codes, taking(c)) {
+            let sizes = sizes_with(table, c, codes);
             n += sizes.0;
             m += sizes.1;
         }

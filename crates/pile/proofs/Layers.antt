@@ -1,7 +1,8 @@
 -- A plan from below, led back in the buffer, is the layer's plan.
 use Rattle.std.proofs.Common.{◌≡◌, ℕ, ◌+◌, ◌≤◌, true, false, cond, ltb, List, ◌++◌, length, take, drop, Ok, Err, Result, sym, refl, ap, ◌∙◌, subst, arith}
-use lib.Seq.{take-append_seam, drop-append_seam}
+use lib.Seq.{take-append_seam}
 use Rattle.std.proofs.lemmas.List.{length-append, length-drop}
+use Rattle.std.proofs.lemmas.Slice.{drop-append-drop}
 use Rattle.std.proofs.lemmas.Bool.{cond-false, ltb-false}
 use Rattle.laws.specs.declared.fault.Fault.{Fault}
 use Rattle.laws.specs.Faults.{fault}
@@ -15,7 +16,8 @@ use Rattle.table.specs.declared.error.Error.{Error}
 use Rattle.table.specs.declared.error.Error.TheVariants.{Refused, Memory}
 use Rattle.pile.specs.declared.answer.Answer.{Answer}
 use Rattle.pile.specs.declared.answer.Answer.TheVariants.{Plan}
-use Rattle.pile.specs.Came.{Came, enough, raised_result}
+use Rattle.pile.specs.Came.{Came, raised_result}
+use Rattle.table.specs.Judged.{enough}
 use Rattle.pile.specs.Ways.{Way, way_of, rebuilt}
 
 -- a buffer that was found long enough is
@@ -30,12 +32,9 @@ was_answer (Ok x) a e = e
 was_answer (Err (Refused f)) a e = let z : ◌≡◌ {A = ℕ} 0 1 = cc in absurd (omega arith)
 was_answer (Err Memory) a e = let z : ◌≡◌ {A = ℕ} 0 1 = cc in absurd (omega arith)
 
--- the front and the rest of a buffer whose front was written
+-- the front of a buffer whose front was written
 pub front_of : (n : ℕ) (p b : List ℕ) → length p ≡ n → take n (p ++ drop n b) ≡ p
 front_of n p b long = subst (λ k. take k (p ++ drop n b) ≡ p) long (take-append_seam p (drop n b))
-
-pub rest_of : (n : ℕ) (p b : List ℕ) → length p ≡ n → drop n (p ++ drop n b) ≡ drop n b
-rest_of n p b long = subst (λ k. drop k (p ++ drop n b) ≡ drop n b) long (drop-append_seam p (drop n b))
 
 -- and its length stays
 pub length_written : (n : ℕ) (p b : List ℕ) → length p ≡ n → n ≤ length b → length (p ++ drop n b) ≡ length b
@@ -64,5 +63,5 @@ module _ (m : ReductionMeaning) (below : Tab → Outcome) (t : Tab) (b : List �
             ∙ cond-false (ltb (length b₁) n) b₁ (m.back t (take n b₁) ++ drop n b₁) enough_still
             ∙ ap (λ c. m.back t (take n c) ++ drop n c) front
             ∙ ap (λ f. m.back t f ++ drop n (q ++ drop n b)) (front_of n q b size)
-            ∙ ap (λ r. m.back t q ++ r) (rest_of n q b size),
+            ∙ ap (λ r. m.back t q ++ r) (drop-append-drop n b q n (omega arith) size),
       )

@@ -1,5 +1,5 @@
 -- Notes, the newest first.
-use Rattle.std.proofs.Common.{◌≡◌, List, [], ◌∷◌, ◌++◌, map, reverse, length, refl, ap, ◌∙◌, arith}
+use Rattle.std.proofs.Common.{◌≡◌, List, [], ◌∷◌, ◌++◌, map, reverse, ap, ◌∙◌}
 use mathlib.Core.List.{reverse-append}
 use Rattle.std.proofs.lemmas.List.{map_push}
 use Rattle.pile.specs.Stepped.{newest_first}
@@ -9,8 +9,3 @@ pub newest_push :
     {N X : Type 0} (noted : X → N) (xs : List X) (x : X)
     → newest_first noted (xs ++ x ∷ []) ≡ noted x ∷ newest_first noted xs
 newest_push noted xs x = ap reverse (map_push noted xs x) ∙ reverse-append (map noted xs) (noted x ∷ [])
-
--- a list of no length is empty
-pub none_left : {X : Type 0} (xs : List X) → length xs ≡ 0 → xs ≡ []
-none_left [] e = refl
-none_left (x ∷ xs) e = absurd (omega arith)

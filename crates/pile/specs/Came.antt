@@ -1,6 +1,5 @@
 -- What comes of a solve, and what the buffer is after it.
 use Rattle.std.specs.Prelude.{◌≡◌, ℕ, ◌+◌, false, cond, List, ◌++◌, length, drop, Ok, Err, Result, nat_lt}
-use Rattle.laws.specs.declared.fault.Fault.{Fault}
 use Rattle.laws.specs.Faults.{fault}
 use Rattle.laws.specs.Outcomes.{Outcome}
 use Rattle.laws.specs.Outcomes.Outcome.{planned, never, refused}
@@ -10,10 +9,6 @@ use Rattle.table.specs.declared.error.Error.{Error}
 use Rattle.table.specs.declared.error.Error.TheVariants.{Refused, Memory}
 use Rattle.pile.specs.declared.answer.Answer.{Answer}
 use Rattle.pile.specs.declared.answer.Answer.TheVariants.{Plan, Never}
-
--- a buffer of fewer bytes than are wanted is refused with 31
-abbrev pub enough : ℕ → List ℕ → Result (Unit {0}) Fault
-enough bytes b = cond (nat_lt (length b) bytes) (Err (fault 3 31 0)) (Ok tt)
 
 -- the answer for a table with this buffer: 31 comes before all else
 abbrev pub answered : (Tab → Outcome) → Tab → List ℕ → Outcome

@@ -3,7 +3,7 @@ use Rattle.std.specs.Prelude.{◌≡◌, ℕ, ◌+◌, cond, List, ◌++◌, len
 use Rattle.laws.specs.declared.fault.Fault.{Fault}
 use Rattle.laws.specs.Reductions.{ReductionMeaning}
 use Rattle.laws.specs.Tables.{Tab}
-use Rattle.pile.specs.Came.{enough}
+use Rattle.table.specs.Judged.{enough}
 
 -- how many bytes it wants, and what becomes of them
 pub record Way : Type 0 where

@@ -5,10 +5,10 @@ ghost use Rattle.laws.specs.Piles.{over};
 ghost use Rattle.laws.specs.Reductions.{Reduces};
 
 use crate::answer::Answer;
-use crate::checks::{check_buffer, raised};
+use crate::raised::raised;
 use crate::reduction::Reduction;
 use crate::solver::Solver;
-use table::{Error, Table};
+use table::{Error, Table, check_buffer};
 
 #[derive(Drop)]
 pub struct Layer<R, S> {
@@ -38,7 +38,7 @@ impl<R: Reduction, S: Solver> Solver for Layer<R, S> {
 
     // Checks the buffer, reduces, solves below, and leads a plan back.
     fn solve(&mut self, table: &mut Table, plan: &mut [u8]) -> Result<Answer, Error> {
-        check_buffer(plan, table.last() as usize + 1)?;
+        check_buffer(plan, table.choice_count())?;
         self.reduction.reduce(table)?;
         let answer = raised(self.solver.solve(table, plan))?;
         if let Answer::Plan(_) = answer {

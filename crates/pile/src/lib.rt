@@ -2,8 +2,8 @@
 #![tactic(auto)]
 
 mod answer;
-mod checks;
 mod layer;
+mod raised;
 mod reduction;
 mod repeat;
 mod rule;

@@ -5,12 +5,11 @@ ghost use Rattle.pile.specs.Stepped.{newest_first, way_by};
 ghost use Rattle.pile.specs.Ways.{fresh};
 ghost use Rattle.laws.proofs.Repetition.{repetition};
 
-use crate::checks::check_buffer;
 use crate::reduction::Reduction;
 use crate::rule::Rule;
 use laws::Fault;
 use std::alloc::{AllocError, Global};
-use table::Table;
+use table::{Table, check_buffer};
 
 #[derive(Drop)]
 pub struct Repeat<R: Rule> {
@@ -55,8 +54,9 @@ impl<R: Rule> Reduction for Repeat<R> {
 
     // Takes steps until none is left. The notes are gathered apart, so that want of memory leaves the way that is held.
     fn reduce(&mut self, table: &mut Table) -> Result<(), AllocError> {
-        let bytes = table.last() as usize + 1;
+        let bytes = table.choice_count();
         let mut notes = Vec::new(self.heap);
+        // no chain: a step can fail, and looks at the notes so far
         while let Some(note) = self.rule.step(self.heap, notes.as_slice(), table)? {
             notes.push(note)?;
         }

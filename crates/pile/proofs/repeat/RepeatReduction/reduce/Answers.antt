@@ -1,5 +1,5 @@
 -- One turn takes one step; at the end the run is the rule's own, since there is no other.
-use Rattle.std.proofs.Common.{◌≡◌, ◌+◌, ◌∷◌, vec_items, refl, ap, ◌∙◌, subst, rules}
+use Rattle.std.proofs.Common.{◌≡◌, ◌+◌, [], ◌∷◌, ◌++◌, vec_items, ap, ◌∙◌, subst}
 use Rattle.laws.specs.Rules.{Runs, GoodStep, repeated, undo_all}
 use Rattle.laws.specs.Rules.Next.{step}
 use Rattle.laws.specs.Rules.Runs.{ends, goes}
@@ -27,38 +27,30 @@ safe_step : (g : given.Over) (c : In-Some g)
 safe_step g c =
     g.met.R.Rule.safe c.args.self.now.rule (newest_first g.R.Rule.noted (vec_items c.loop-notes.notes)) (tab_of c.loop-notes.table) c.loop-notes.invariant.0 _ _ (next_is g c)
 
-pub loop-notes-smaller : goal.loop-notes-smaller
-loop-notes-smaller g c = (safe_step g (goal.at.loop-notes-smaller g c).In-Some).falls
-
 pub loop-notes-preserved : goal.loop-notes-preserved
 loop-notes-preserved g c =
     let d = (goal.at.loop-notes-preserved g c).In-Some in
     let r = g.R.Rule.rule c.args.self.now.rule in
     let noted = g.R.Rule.noted in
     let good = safe_step g d in
-    let pushed : newest_first noted (vec_items c.push.new.self) ≡ noted c.in-Some.note ∷ newest_first noted (vec_items c.loop-notes.notes) =
-    ap (newest_first noted) c.in_ok-push.ensures.items ∙ newest_push noted (vec_items c.loop-notes.notes) c.in-Some.note in (
+    let items : vec_items c.push.new.self ≡ vec_items c.loop-notes.notes ++ c.in-Some.note ∷ [] = c.in_ok-push.ensures.items in
+    let pushed = ap (newest_first noted) items ∙ newest_push noted (vec_items c.loop-notes.notes) c.in-Some.note in (
       good.table,
       good.no_larger.same_last ∙ c.loop-notes.invariant.1,
       λ ms v run. c.loop-notes.invariant.2 ms v (goes (next_is g d) (subst (λ ns. Runs r ns (tab_of c.step.new.table) ms v) pushed run)),
     )
 
-pub returns-in_err-push : goal.returns-in_err-push
-returns-in_err-push g c =
-    let same = (safe_step g (goal.at.returns-in_err-push g c).In-Some).no_larger.same_last ∙ c.loop-notes.invariant.1 in
-    search rules
-
-pub returns : goal.returns
-returns g c =
+pub returns-clause-came : goal.returns-clause-came
+returns-clause-came g c =
     let r = g.R.Rule.rule c.args.self.now.rule in
     let noted = g.R.Rule.noted in
     let ns = newest_first noted (vec_items c.loop-notes.notes) in
     let t = tab_of c.args.table.now in
     let end = stopped AllocError r noted _ ns _ _ c.in_ok-note.field-0 (ap (newest_first noted) c.as_slice.ensures.value) c.in_ok-note.ensures c.in_default.is in
     let run = c.loop-notes.invariant.2 ns (tab_of c.loop-notes.table) (ends end.0) in
-    let only = (repetition r (g.met.R.Rule.safe c.args.self.now.rule) t c.last.ensures.lawful).only ns (tab_of c.loop-notes.table) run in
-    let sized : ◌≡◌ {A = Way} (record { bytes = c.last.result + 1; apply = undo_all r ns }) (record { bytes = t.last + 1; apply = undo_all r ns }) =
-    ap (λ k. record { bytes = k + 1; apply = undo_all r ns }) c.last.ensures.value in
+    let only = (repetition r (g.met.R.Rule.safe c.args.self.now.rule) t c.choice_count-bytes.ensures.lawful).only ns (tab_of c.loop-notes.table) run in
+    let sized : ◌≡◌ {A = Way} (record { bytes = c.choice_count-bytes.result; apply = undo_all r ns }) (record { bytes = t.last + 1; apply = undo_all r ns }) =
+    ap (λ k. record { bytes = k; apply = undo_all r ns }) c.choice_count-bytes.ensures.count in
     let noted_all : ◌≡◌ {A = Way} (record { bytes = t.last + 1; apply = undo_all r ns }) (way_of (repeated r) t) =
     ap (λ ks. record { bytes = t.last + 1; apply = undo_all r ks }) only.0 in
-    record { came = (end.1 ∙ only.1, sized ∙ noted_all); same = refl }
+    (end.1 ∙ only.1, sized ∙ noted_all)

@@ -1,9 +1,9 @@
 -- Records read back and written back.
 use Rattle.std.proofs.Common.{◌≡◌, ℕ, ◌+◌, ◌*◌, ◌/◌, ◌%◌, ◌^◌, ◌<◌, ◌≤◌, Bool, true, false, cond, ◌&&◌, ltb, leb, ◌⊎◌, List, [], ◌∷◌, ◌++◌, length, get_or, drop, Some, None, Ok, Err, All, Option, Result, sym, refl, ap, ◌∙◌, subst, inl, inr, arith, length-drop}
-use native.Mathlib.Nat.{div-div-eq-div-mul}
 use Rattle.std.specs.Option.{option_map}
+use Rattle.std.proofs.lemmas.Nat.{from_be_bytes-to_be_bytes_4, be_bytes_4}
 use Rattle.std.proofs.lemmas.List.{drop_all}
-use Rattle.std.proofs.lemmas.List.Elements.{All-drop}
+use Rattle.std.proofs.lemmas.List.Elements.{All-take, All-drop}
 use Rattle.std.proofs.lemmas.Bool.{ltb-true, ltb-false, leb-true, lt-ltb, le-ltb, le-leb, and_from, and_parts}
 use Rattle.std.proofs.lemmas.Bool.Decides.{nat_tests}
 use Rattle.laws.specs.Outcomes.{Outcome, planned, never, refused}
@@ -11,37 +11,24 @@ use Rattle.records.specs.declared.answer.AnswerError.{AnswerError}
 use Rattle.records.specs.declared.answer.AnswerError.TheVariants as flaw
 use Rattle.records.specs.declared.answer.WriteError.{WriteError}
 use Rattle.records.specs.declared.answer.WriteError.TheVariants as reason
-use Rattle.records.proofs.Words.{two_forth}
+use Rattle.records.proofs.Words.{byte_at, two_forth}
 use Rattle.records.specs.Answers.{in_fault, fault_in, encode, refusing, and_then, stray, flaw_of, unwritable, head_of, body_in, end_of, decode}
 use Rattle.records.specs.Bytes.{in_two, in_four, from_two, from_four, framed}
 use Rattle.records.specs.AnswerLaws.{FaultFits, OutcomeFits, RecordOf, AnswerLaws}
 
 -- numbers and their bytes
 
-pub two_back : (n : ℕ) → n < 65536 → n / 256 % 256 * 256 + n % 256 ≡ n
+two_back : (n : ℕ) → n < 65536 → n / 256 % 256 * 256 + n % 256 ≡ n
 two_back n h = omega arith
 
-pub four_back : (n : ℕ) → n < 2 ^ 32
+four_back : (n : ℕ) → n < 2 ^ 32
     → n / 16777216 % 256 * 16777216 + n / 65536 % 256 * 65536 + n / 256 % 256 * 256 + n % 256 ≡ n
-four_back n h =
-    let p : n / 65536 ≡ n / 256 / 256 = sym (div-div-eq-div-mul n 256 256) in
-    let q : n / 16777216 ≡ n / 256 / 256 / 256 = sym (div-div-eq-div-mul n 65536 256) ∙ ap (λ x. x / 256) p in
-    rw (q, p) (omega arith)
-
-four_forth : (a b c d : ℕ)
-    → a < 256 → b < 256 → c < 256 → d < 256
-    → in_four (a * 16777216 + b * 65536 + c * 256 + d) ≡ a ∷ b ∷ c ∷ d ∷ []
-four_forth a b c d h i j k =
-    let p : (a * 16777216 + b * 65536 + c * 256 + d) / 16777216 % 256 ≡ a = omega arith in
-    let q : (a * 16777216 + b * 65536 + c * 256 + d) / 65536 % 256 ≡ b = omega arith in
-    let r : (a * 16777216 + b * 65536 + c * 256 + d) / 256 % 256 ≡ c = omega arith in
-    let s : (a * 16777216 + b * 65536 + c * 256 + d) % 256 ≡ d = omega arith in
-    rw (p, q, r, s)
+four_back n h = from_be_bytes-to_be_bytes_4 n h
 
 -- reading
 
 -- where the checks of head and length pass, bytes stand for what their body stands for
-pub whole : (bs : List ℕ) (n : ℕ)
+whole : (bs : List ℕ) (n : ℕ)
     → n ≡ from_two 1 bs → 3 ≤ length bs → head_of (get_or bs 0 0) n ≡ Ok tt
     → 3 + n ≤ length bs → length bs ≤ 3 + n
     → body_in (get_or bs 0 0) (drop 3 bs) ≡ decode bs
@@ -118,11 +105,9 @@ four_exact (x ∷ []) h a = absurd (omega arith)
 four_exact (x ∷ y ∷ []) h a = absurd (omega arith)
 four_exact (x ∷ y ∷ z ∷ []) h a = absurd (omega arith)
 four_exact (x ∷ y ∷ z ∷ w ∷ bs) h a =
-    let at_x : x < 256 = a 0 0 (omega arith) in
-    let at_y : y < 256 = a 1 0 (omega arith) in
-    let at_z : z < 256 = a 2 0 (omega arith) in
-    let at_w : w < 256 = a 3 0 (omega arith) in
-    (omega arith, ap (λ (l : List ℕ). l ++ bs) (four_forth x y z w at_x at_y at_z at_w))
+    let four = x ∷ y ∷ z ∷ w ∷ [] in
+    let at = byte_at four (All-take (λ b. b < 256) 4 (x ∷ y ∷ z ∷ w ∷ bs) a) in
+    (omega (arith, at 0, at 1, at 2, at 3), ap (λ (l : List ℕ). l ++ bs) (be_bytes_4 four _ refl at refl))
 
 -- seven bytes are those of the fault that they stand for
 seven_exact : (bs : List ℕ)

@@ -1,6 +1,6 @@
 -- Why a record that is read lies in the file with exactly its bytes.
 use Rattle.std.proofs.Common.{◌≡◌, ℕ, suc, ◌+◌, ◌-◌, ◌<◌, ◌≤◌, true, eqb, List, [], ◌∷◌, ◌++◌, length, get_or, take, drop, All, sym, refl, ap, ◌∙◌, subst, inl, inr, arith, length-drop}
-use Rattle.std.proofs.lemmas.List.Elements.{All-get_or, All-take, All-drop}
+use Rattle.std.proofs.lemmas.List.Elements.{All-take, All-drop}
 use Rattle.std.proofs.lemmas.List.{drop_more, length-take-le}
 use Rattle.std.proofs.lemmas.Bool.{leb-true, eqb-true, cond_both}
 use Rattle.records.specs.Bytes.{word, framed, in_two}
@@ -10,7 +10,7 @@ use Rattle.records.specs.Reading.{tag_at, size_at, behind, is_fit, says, entry_a
 use Rattle.records.specs.Refusals.{Known}
 use Rattle.records.proofs.Readings.{Passed, given}
 use Rattle.records.proofs.Tells.{tells_known}
-use Rattle.records.proofs.Words.{two_forth}
+use Rattle.records.proofs.Words.{byte_at, two_forth}
 
 -- the bytes of a header
 header_bytes : (high low : ℕ) (body : List ℕ) → length body ≡ word high low → word high low ≡ 1 →
@@ -80,10 +80,6 @@ says_part file at tag body h =
     cond_both (eqb tag 2) _ _ (Part file at) (λ _. (refl, h)) (λ _.
     cond_both (eqb tag 3) _ _ (Part file at) (λ _. tt) (λ _. tt)))
 
--- a file of bytes has a byte at each place
-byte_at : (file : List ℕ) (i : ℕ) → i < length file → All (λ b. b < 256) file → get_or file i 0 < 256
-byte_at file i h all = All-get_or (λ b. b < 256) file i 0 h all
-
 lies_there : (file : List ℕ) (at : ℕ) → Passed file at → Lies file at (entry_at file at) (behind file at)
 lies_there file at p =
     let size = size_at file at in
@@ -96,7 +92,7 @@ lies_there file at p =
       inside = inside;
       exact = λ all. first_three file at size (omega arith)
           ∙ says_bytes (tag_at file at) (get_or file (at + 1) 0) (get_or file (at + 2) 0) body (at + 3) ((tells_known _).0 p.known)
-          p.fit long (byte_at file (at + 1) (omega arith) all) (byte_at file (at + 2) (omega arith) all)
+          p.fit long (byte_at file all (at + 1)) (byte_at file all (at + 2))
           (All-take (λ b. b < 256) size (drop (at + 3) file) (All-drop (λ b. b < 256) (at + 3) file all));
       part = says_part file at (tag_at file at) body (ap (λ n. take n (drop (at + 3) file)) (sym long));
     }

@@ -1,17 +1,11 @@
 -- What a reading is, by the checks that pass and the first that fails.
-use Rattle.std.proofs.Common.{◌≡◌, ℕ, ◌+◌, ◌-◌, ◌≤◌, Bool, true, false, not, ◌||◌, eqb, leb, ◌⊎◌, List, length, take, drop, sym, refl, ap, ◌∙◌, inl, inr, arith}
+use Rattle.std.proofs.Common.{◌≡◌, ℕ, ◌+◌, ◌≤◌, Bool, true, false, not, ◌||◌, eqb, leb, List, length, refl, arith}
 use mathlib.Core.Bool.{beq}
-use Rattle.std.proofs.lemmas.Bool.{leb-true, or_left, or_right, eq-eqb, ne_eqb, not_from_false}
+use Rattle.std.proofs.lemmas.Bool.{leb-true}
 use Rattle.laws.specs.declared.fault.Fault.{Fault}
 use Rattle.laws.specs.Faults.{file_fault}
 use Rattle.records.specs.Entries.{Entry}
-use Rattle.records.specs.Reading.{Reading, refuses, gives, read_at, behind, tag_at, size_at, is_known, is_fit, says, entry_at, refuses_unless}
-
--- a record that is not the end, or behind which nothing is left, passes the last check
-pub last_check : (tag near next long : ℕ) → near ≡ next → (((tag ≡ 15) × (long ≤ near)) ⊎ (tag ≡ 15 → ⊥)) →
-    next ≤ long → (not (eqb tag 15) || eqb next long) ≡ true
-last_check tag near next long e (inl h) le = or_right _ _ (eq-eqb next long (omega arith))
-last_check tag near next long e (inr h) le = or_left _ _ (not_from_false _ (ne_eqb tag 15 h))
+use Rattle.records.specs.Reading.{Reading, refuses, gives, read_at, behind, tag_at, size_at, is_known, is_fit, entry_at, refuses_unless}
 
 module _ (file : List ℕ) (at : ℕ) where
   pub at_50 : leb (length file) 65535 ≡ false → read_at file at ≡ refuses (file_fault 50 0)
@@ -41,16 +35,6 @@ module _ (file : List ℕ) (at : ℕ) where
             pub at_record : (not (eqb (tag_at file at) 15) || eqb (behind file at) (length file)) ≡ true →
                 read_at file at ≡ gives (entry_at file at) (behind file at)
             at_record f = simp (a, b, c, d, e, f)
-
-  -- a record made of a part of the file is the record that is read there
-  pub from_part : (size : ℕ) (e : Entry) → size ≡ size_at file at →
-      e ≡ says (tag_at file at) (take (at + 3 + size - (at + 3)) (drop (at + 3) file)) (at + 3) →
-      read_at file at ≡ gives (entry_at file at) (behind file at) → gives e (at + 3 + size) ≡ read_at file at
-  from_part size e s is h =
-      let gone : at + 3 + size - (at + 3) ≡ size = omega arith in
-      let whole : e ≡ entry_at file at =
-      is ∙ ap (λ n. says (tag_at file at) (take n (drop (at + 3) file)) (at + 3)) (gone ∙ s) in
-      ap (λ x. gives x (at + 3 + size)) whole ∙ ap (λ n. gives (entry_at file at) (at + 3 + n)) s ∙ sym h
 
 -- a check that is passed on the way to a record
 check_gives : (b : Bool) (f : Fault) (rest : Reading) (e : Entry) (n : ℕ) → refuses_unless b f rest ≡ gives e n →

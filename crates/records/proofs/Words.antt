@@ -1,39 +1,24 @@
--- Numbers of two bytes.
-use Rattle.std.proofs.Common.{◌≡◌, ℕ, ◌+◌, ◌-◌, ◌*◌, ◌/◌, ◌%◌, ◌<◌, ◌≤◌, List, [], ◌∷◌, ◌++◌, length, get_or, drop, sym, refl, ap, ◌∙◌, arith, length-drop}
-use Rattle.std.proofs.lemmas.List.{append_assoc, drop_more}
-use Rattle.records.specs.Bytes.{word, words, in_two}
+-- Bytes, and numbers of two bytes.
+use Rattle.std.proofs.Common.{All, ◌≡◌, ℕ, suc, ◌+◌, ◌*◌, ◌/◌, ◌<◌, List, [], ◌∷◌, length, get_or, map, refl, ap, arith}
+use Rattle.std.proofs.Math.ListN.{get_or-eq_default}
+use Rattle.std.proofs.lemmas.Grind.{common_steps}
+use Rattle.std.proofs.lemmas.Nat.{be_bytes_2}
+use Rattle.std.specs.Simd.{first_chunks}
+use Rattle.records.specs.Bytes.{word, pair_word, words, in_two}
+
+-- a list of bytes has a byte at each place, past its end too
+pub byte_at : (bs : List ℕ) → All (λ b. b < 256) bs → (i : ℕ) → get_or bs i 0 < 256
+byte_at bs a i = let here : i < length bs → get_or bs i 0 < 256 = a i 0 in grind (arith, common_steps, get_or-eq_default bs 0 {n = i})
 
 -- two bytes are those of the number that they stand for
 pub two_forth : (a b : ℕ) → a < 256 → b < 256 → in_two (a * 256 + b) ≡ a ∷ b ∷ []
-two_forth a b h k =
-    let p : (a * 256 + b) / 256 % 256 ≡ a = omega arith in
-    let q : (a * 256 + b) % 256 ≡ b = omega arith in
-    rw (p, q)
+two_forth a b h k = be_bytes_2 (a ∷ b ∷ []) _ refl (λ i. grind arith) refl
 
--- fewer than two bytes stand for no number
-pub words_short : (bytes : List ℕ) → length bytes < 2 → words bytes ≡ []
-words_short [] h = refl
-words_short (a ∷ []) h = refl
-words_short (a ∷ b ∷ bytes) h = absurd (omega arith)
-
--- the same of what is left of a list
-pub words_end : (bytes : List ℕ) (i : ℕ) → length bytes - i < 2 → words (drop i bytes) ≡ []
-words_end bytes i h = words_short (drop i bytes) (simp length-drop (omega arith))
-
--- the next number of what is left of a list
-words_more : (bytes : List ℕ) (i : ℕ) → 2 ≤ length bytes - i →
-    words (drop i bytes) ≡ word (get_or bytes i 0) (get_or bytes (i + 1) 0) ∷ words (drop (i + 2) bytes)
-words_more bytes i h =
-    let one : drop i bytes ≡ get_or bytes i 0 ∷ drop (i + 1) bytes = drop_more bytes i 0 (omega arith) in
-    let two : drop (i + 1) bytes ≡ get_or bytes (i + 1) 0 ∷ drop (i + 1 + 1) bytes = drop_more bytes (i + 1) 0 (omega arith) in
-    let two_on : i + 1 + 1 ≡ i + 2 = omega arith in
-    ap words (one ∙ ap (λ xs. get_or bytes i 0 ∷ xs) (two ∙ ap (λ n. get_or bytes (i + 1) 0 ∷ drop n bytes) two_on))
-
--- one number more is made, and what is left is two bytes shorter
-pub words_push : (bytes made next : List ℕ) (i n : ℕ) → 2 ≤ length bytes - i →
-    n ≡ word (get_or bytes i 0) (get_or bytes (i + 1) 0) → next ≡ made ++ n ∷ [] →
-    made ++ words (drop i bytes) ≡ words bytes → next ++ words (drop (i + 2) bytes) ≡ words bytes
-words_push bytes made next i n long is pushed all =
-    let left = words (drop (i + 2) bytes) in
-    ap (λ xs. xs ++ left) pushed ∙ append_assoc made (n ∷ []) left
-    ∙ ap (λ xs. made ++ xs) (ap (λ x. x ∷ left) is ∙ sym (words_more bytes i long)) ∙ all
+-- the numbers that bytes stand for are those of their pairs
+pub words_pairs : (bytes : List ℕ)
+    → map pair_word (first_chunks 2 (length bytes / 2) bytes) ≡ words bytes
+words_pairs [] = refl
+words_pairs (a ∷ []) = refl
+words_pairs (a ∷ b ∷ bytes) =
+    let more : length (a ∷ b ∷ bytes) / 2 ≡ suc (length bytes / 2) = omega arith in
+    rw more (ap (λ ws. word a b ∷ ws) (words_pairs bytes))

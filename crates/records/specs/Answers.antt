@@ -70,6 +70,11 @@ unwritable (planned bytes n) = flaw_of bytes
 unwritable (never n) = None
 unwritable (refused f) = None
 
+-- what writing a record into a buffer of so many bytes answers: its length, or that it does not fit
+abbrev pub fitted : List ℕ → ℕ → Result ℕ WriteError
+fitted bs room =
+    refusing (cond (nat_le (length bs) room) None (Some (reason.Buffer (length bs)))) (length bs)
+
 -- what writing an outcome into a buffer of so many bytes answers: the record's length, or why it was not written
 abbrev pub written : Outcome → ℕ → Result ℕ WriteError
 written o room =

@@ -5,6 +5,10 @@ use Rattle.std.specs.Prelude.{ℕ, ◌+◌, ◌*◌, ◌/◌, ◌%◌, List, [],
 abbrev pub word : ℕ → ℕ → ℕ
 word high low = high * 256 + low
 
+-- the number that a pair of bytes stands for
+abbrev pub pair_word : List ℕ → ℕ
+pair_word pair = word (slice_index pair 0) (slice_index pair 1)
+
 -- the numbers that bytes stand for, two bytes each; an odd last byte is left out
 abbrev pub words : List ℕ → List ℕ
 words [] = []

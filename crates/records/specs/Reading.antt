@@ -70,3 +70,8 @@ stands (gives e n) at = n
 abbrev pub reading_of : Result Record Fault → ℕ → Reading
 reading_of (Ok x) n = gives (entry_of x) n
 reading_of (Err f) n = refuses f
+
+-- a record and the offset behind it, or a fault, as a reading
+abbrev pub record_reading : Result (Record × ℕ) Fault → Reading
+record_reading (Ok r) = gives (entry_of r.0) r.1
+record_reading (Err f) = refuses f

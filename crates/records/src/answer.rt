@@ -6,12 +6,17 @@
 ghost use Rattle.std.specs.Prelude.{◌≡◌, ◌+◌, ◌<◌, ◌≤◌, ◌++◌, length, take, IfOk, IfErr, Some, None, Ok};
 ghost use Rattle.laws.specs.Lists.{or_else};
 ghost use Rattle.records.specs.AnswerLaws.{AnswerLaws, FaultFits, OutcomeFits};
-ghost use Rattle.records.specs.Answers.{answer_of, means, decode, encode, over, fault_in, in_fault, body_in, head_of, ranged, stray, flaw_of, unwritable, refusing, written, left_by};
+ghost use Rattle.records.specs.Answers.{answer_of, means, decode, encode, over, fault_in, in_fault, stray, flaw_of, unwritable, refusing, written, fitted, left_by};
 ghost use Rattle.records.specs.Bytes.{framed};
+ghost use Rattle.records.specs.Kinds.{kind_number};
 ghost use Rattle.records.specs.declared.answer.WriteError.TheVariants.{Memory};
 
+mod kind;
+
+use kind::Kind;
 use laws::Fault;
 use std::alloc::{AllocError, Global};
+use std::cmp::Ordering;
 use std::error::Error;
 use std::fmt;
 
@@ -26,13 +31,6 @@ const FAULT: usize = 7;
 
 // The most choices that a plan has.
 const CHOICES: usize = 256;
-
-// The tag of each kind of answer.
-const PLAN: u8 = 0x21;
-
-const NONE: u8 = 0x22;
-
-const REFUSAL: u8 = 0x23;
 
 // What a solver answered. A plan's bytes are lent: one for each choice, 1 for taken and 0 for left out.
 #[derive(Clone, Copy, PartialEq, Eq, Debug)]
@@ -113,20 +111,17 @@ impl<'a> Answer<'a> {
     pub fn read(src: &'a [u8]) -> Result<Answer<'a>, AnswerError>
         ensures value { means result ≡ decode src.now }
     {
-        if src.len() < HEAD {
+        let [tag, high, low, body @ ..] = src else {
             return Err(AnswerError::Cut);
+        };
+        let kind = Kind::try_from(*tag)?;
+        let size = u16::from_be_bytes([*high, *low]);
+        kind.check_length(size)?;
+        match body.len().cmp(&usize::from(size)) {
+            Ordering::Less => Err(AnswerError::Cut),
+            Ordering::Greater => Err(AnswerError::Trailing),
+            Ordering::Equal => kind.read_body(body),
         }
-        let tag = src[0];
-        let size = u16::from_be_bytes([src[1], src[2]]);
-        check_head(tag, size)?;
-        let end = HEAD + usize::from(size);
-        if src.len() < end {
-            return Err(AnswerError::Cut);
-        }
-        if src.len() > end {
-            return Err(AnswerError::Trailing);
-        }
-        read_body(tag, &src[HEAD..end])
     }
 
     // How many bytes the record has, or why the answer has none.
@@ -150,13 +145,17 @@ impl<'a> Answer<'a> {
         ensures value { result ≡ written (answer_of self.now) (length out.old) }
         ensures after { out.new ≡ left_by result (answer_of self.now) out.old }
         ensures back { IfOk result (λ n. decode (take n out.new) ≡ Ok (answer_of self.now)) }
+        ensures fits { OutcomeFits (answer_of self.now) }
     {
-        let size = self.record_len()?;
-        if out.len() < size {
-            return Err(WriteError::Buffer(size));
+        match self {
+            Answer::Plan { work, plan } => {
+                let work = work.to_be_bytes();
+                check_plan(plan)?;
+                put_record(out, Kind::Plan, &work, plan)
+            }
+            Answer::NoPlan { work } => put_record(out, Kind::NoPlan, &work.to_be_bytes(), &[]),
+            Answer::Refusal(fault) => put_record(out, Kind::Refusal, &fault_bytes(fault), &[]),
         }
-        self.put(out);
-        Ok(size)
     }
 
     // The record's bytes.
@@ -170,77 +169,20 @@ impl<'a> Answer<'a> {
         self.write(&mut bytes)?;
         Ok(bytes)
     }
-
-    // Writes the record at the front of a buffer that has room for it.
-    fn put(&self, out: &mut [u8])
-        requires short { length (encode (answer_of self.now)) ≤ 263 }
-        requires room { length (encode (answer_of self.now)) ≤ length out.old }
-        ensures after { out.new ≡ over out.old 0 (encode (answer_of self.now)) }
-        ensures fits { OutcomeFits (answer_of self.now) }
-    {
-        match self {
-            Answer::Plan { work, plan } => put_record(out, PLAN, &work.to_be_bytes(), plan),
-            Answer::NoPlan { work } => put_record(out, NONE, &work.to_be_bytes(), &[]),
-            Answer::Refusal(fault) => put_record(out, REFUSAL, &fault_bytes(fault), &[]),
-        }
-    }
 }
 
-// Is the tag known, and does the length fit it?
-fn check_head(tag: u8, size: u16) -> Result<(), AnswerError>
-    ensures value { result ≡ head_of tag size }
+// The fault that seven bytes stand for. No `From` for this and `fault_bytes`: between a fault and bytes it could stand
+// only in `laws`, which knows no file.
+fn read_fault(bytes: [u8; FAULT]) -> Fault
+    ensures value { result ≡ fault_in bytes }
 {
-    if tag == PLAN {
-        check_length(size, 5, 260)
-    } else if tag == NONE {
-        check_length(size, 4, 4)
-    } else if tag == REFUSAL {
-        check_length(size, 7, 7)
-    } else {
-        Err(AnswerError::Tag(tag))
-    }
-}
-
-// Is the length from `least` to `most`?
-fn check_length(size: u16, least: u16, most: u16) -> Result<(), AnswerError>
-    ensures value { result ≡ ranged least most size }
-{
-    if size < least || most < size {
-        return Err(AnswerError::Length(size));
-    }
-    Ok(())
-}
-
-// What a body of a fitting length stands for.
-fn read_body<'a>(tag: u8, body: &'a [u8]) -> Result<Answer<'a>, AnswerError>
-    requires { head_of tag (length body.now) ≡ Ok tt }
-    ensures value { means result ≡ body_in tag body.now }
-{
-    if tag == REFUSAL {
-        return Ok(Answer::Refusal(read_fault(body)));
-    }
-    let work = u32::from_be_bytes([body[0], body[1], body[2], body[3]]);
-    if tag == NONE {
-        return Ok(Answer::NoPlan { work });
-    }
-    let plan = &body[WORK..];
-    match stray_byte(plan) {
-        Some(i) => Err(AnswerError::PlanByte(i)),
-        None => Ok(Answer::Plan { work, plan }),
-    }
-}
-
-// The fault that seven bytes stand for.
-fn read_fault(body: &[u8]) -> Fault
-    requires { 7 ≤ length body.now }
-    ensures value { result ≡ fault_in body.now }
-{
+    let [layer, depth, number, p, q, x, y] = bytes;
     Fault {
-        layer: body[0],
-        depth: body[1],
-        number: body[2],
-        place: u16::from_be_bytes([body[3], body[4]]),
-        offset: u16::from_be_bytes([body[5], body[6]]),
+        layer,
+        depth,
+        number,
+        place: u16::from_be_bytes([p, q]),
+        offset: u16::from_be_bytes([x, y]),
     }
 }
 
@@ -248,25 +190,17 @@ fn read_fault(body: &[u8]) -> Fault
 fn stray_byte(plan: &[u8]) -> Option<usize>
     ensures value { result ≡ stray plan.now }
 {
-    for (i, b) in plan.iter().enumerate() {
-        if *b > 1 {
-            return Some(i);
-        }
-    }
-    None
+    plan.iter().position(|b| *b > 1)
 }
 
-// Has the plan 1 to 256 bytes, each 0 or 1?
+// Refuses a plan that has not 1 to 256 bytes, each 0 or 1.
 fn check_plan(plan: &[u8]) -> Result<(), WriteError>
     ensures value { result ≡ refusing (flaw_of plan.now) tt }
 {
-    if plan.is_empty() || plan.len() > CHOICES {
+    if !(1..=CHOICES).contains(&plan.len()) {
         return Err(WriteError::PlanLength(plan.len()));
     }
-    match stray_byte(plan) {
-        Some(i) => Err(WriteError::PlanByte(i)),
-        None => Ok(()),
-    }
+    stray_byte(plan).map_or(Ok(()), |i| Err(WriteError::PlanByte(i)))
 }
 
 // A fault's five numbers as bytes.
@@ -286,25 +220,23 @@ fn fault_bytes(fault: &Fault) -> [u8; FAULT]
     [*layer, *depth, *number, p, q, x, y]
 }
 
-// Writes a record at the front of a buffer; its body comes in two parts.
-fn put_record(out: &mut [u8], tag: u8, first: &[u8], rest: &[u8])
-    requires short { length first.now + length rest.now < 65536 }
-    requires room { 3 + (length first.now + length rest.now) ≤ length out.old }
-    ensures after { out.new ≡ over out.old 0 (framed tag (first.now ++ rest.now)) }
+// Writes a record at the front of a buffer, if it fits, and answers its length; its body comes in two parts.
+fn put_record(out: &mut [u8], kind: Kind, first: &[u8], rest: &[u8]) -> Result<usize, WriteError>
+    requires { length first.now + length rest.now < 65536 }
+    ensures value { result ≡ fitted (framed (kind_number kind) (first.now ++ rest.now)) (length out.old) }
+    ensures after { IfOk result (λ n. out.new ≡ over out.old 0 (framed (kind_number kind) (first.now ++ rest.now))) }
+    ensures same { IfErr result (λ e. out.new ≡ out.old) }
 {
-    let size = (first.len() + rest.len()) as u16;
-    let [high, low] = size.to_be_bytes();
-    put_bytes(out, 0, &[tag, high, low]);
-    put_bytes(out, HEAD, first);
-    put_bytes(out, HEAD + first.len(), rest);
-}
-
-// Writes bytes over a buffer from a place on.
-fn put_bytes(out: &mut [u8], start: usize, bytes: &[u8])
-    requires { start + length bytes.now ≤ length out.old }
-    ensures after { out.new ≡ over out.old start bytes.now }
-{
-    out[start..start + bytes.len()].copy_from_slice(bytes);
+    let body = first.len() + rest.len();
+    let size = HEAD + body;
+    if out.len() < size {
+        return Err(WriteError::Buffer(size));
+    }
+    let [high, low] = (body as u16).to_be_bytes();
+    out[..HEAD].copy_from_slice(&[kind as u8, high, low]);
+    out[HEAD..HEAD + first.len()].copy_from_slice(first);
+    out[HEAD + first.len()..size].copy_from_slice(rest);
+    Ok(size)
 }
 
 // What holds of records: what is written is read back as the same answer, and what is accepted is what would be written.

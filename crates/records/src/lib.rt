@@ -2,12 +2,12 @@
 #![tactic(auto)]
 
 mod answer;
-mod checks;
 mod decode;
 mod reader;
 mod record;
 mod run;
 mod standing;
+mod tag;
 
 pub use answer::{Answer, AnswerError, WriteError, answers_stand};
 pub use decode::codes;

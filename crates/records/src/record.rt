@@ -18,9 +18,6 @@ impl Record<'_> {
     pub fn is_end(&self) -> bool
         ensures { result ≡ is_end (entry_of self.now) }
     {
-        match self {
-            Record::End => true,
-            _ => false,
-        }
+        matches!(self, Record::End)
     }
 }

@@ -1,11 +1,16 @@
 // Reading the next record: the checks in their order.
-ghost use Rattle.std.specs.Prelude.{◌≡◌};
-ghost use Rattle.records.specs.Reading.{read_at, stands, reading_of};
+ghost use Rattle.std.specs.Prelude.{◌≡◌, ◌≤◌, length, IfOk};
+ghost use Rattle.laws.specs.Faults.{file_fault};
+ghost use Rattle.laws.specs.Numbers.{check_number};
+ghost use Rattle.records.specs.Reading.{read_at, stands, reading_of, record_reading};
 
-use crate::checks::{END, HEADER, LONGEST, is_fit, is_known, joined, record_of, refusal};
 use crate::reader::Reader;
 use crate::record::Record;
-use laws::Fault;
+use crate::tag::Tag;
+use laws::{Check, Fault, Layer};
+
+// The most bytes that a file may have.
+const LONGEST: usize = 65535;
 
 impl<'a> Reader<'a> {
     // The next record, or why there is none. A refusal leaves the reader where it stands.
@@ -14,33 +19,48 @@ impl<'a> Reader<'a> {
         ensures position { self.new.pos ≡ stands (read_at self.old.src.now self.old.pos) self.old.pos }
         ensures same { self.new.src.now ≡ self.old.src.now }
     {
-        let src = self.src;
-        let at = self.pos;
-        if src.len() > LONGEST {
-            return Err(refusal(50, 0));
-        }
-        if src.len() - at < 3 {
-            return Err(refusal(51, at));
-        }
-        let tag = src[at];
-        let size = joined(src[at + 1], src[at + 2]) as usize;
-        if src.len() - at - 3 < size {
-            return Err(refusal(51, at));
-        }
-        if !is_known(tag) {
-            return Err(refusal(52, at));
-        }
-        if (tag == HEADER) != (at == 0) {
-            return Err(refusal(53, at));
-        }
-        if !is_fit(tag, size) {
-            return Err(refusal(54, at));
-        }
-        let next = at + 3 + size;
-        if tag == END && next < src.len() {
-            return Err(refusal(55, at));
-        }
+        let (record, next) = record_at(self.src, self.pos)?;
         self.pos = next;
-        Ok(record_of(tag, &src[at + 3..next], at + 3))
+        Ok(record)
+    }
+}
+
+// The record at an offset, and the offset behind it, or the first check that fails there.
+fn record_at<'a>(src: &'a [u8], at: usize) -> Result<(Record<'a>, usize), Fault>
+    requires { at ≤ length src.now }
+    ensures came { record_reading result ≡ read_at src.now at }
+    ensures inside { IfOk result (λ r. r.1 ≤ length src.now) }
+{
+    if src.len() > LONGEST {
+        return Err(refusal(Check::FileSize, 0));
+    }
+    let [tag, high, low, rest @ ..] = &src[at..] else {
+        return Err(refusal(Check::RecordWhole, at));
+    };
+    let size = usize::from(u16::from_be_bytes([*high, *low]));
+    if rest.len() < size {
+        return Err(refusal(Check::RecordWhole, at));
+    }
+    let tag = Tag::try_from(*tag).map_err(|check| refusal(check, at))?;
+    if (tag == Tag::Header) != (at == 0) {
+        return Err(refusal(Check::HeaderFirst, at));
+    }
+    if !tag.fits(size) {
+        return Err(refusal(Check::RecordLength, at));
+    }
+    if tag == Tag::End && rest.len() > size {
+        return Err(refusal(Check::EndLast, at));
+    }
+    Ok((tag.record(&rest[..size], at + 3), at + 3 + size))
+}
+
+// The fault of a file's check at a record's offset.
+fn refusal(check: Check, offset: usize) -> Fault
+    requires { offset ≤ 65535 }
+    ensures { result ≡ file_fault (check_number check) offset }
+{
+    Fault {
+        offset: offset as u16,
+        ..Fault::new(Layer::File, check)
     }
 }

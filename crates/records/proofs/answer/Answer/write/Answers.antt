@@ -1,15 +1,15 @@
-use Rattle.records.proofs.AnswerWrites.{value_at, after_at, back_at}
-use Rattle.records.specs.Answers.{answer_of}
+use Rattle.std.proofs.Common.{◌≡◌, ◌++◌, None, ap, arith}
+use Rattle.std.proofs.lemmas.Grind.{common_steps}
+use Rattle.laws.specs.Outcomes.{planned}
+use Rattle.records.specs.Answers.{flaw_of}
+use Rattle.records.specs.Bytes.{framed}
+use Rattle.records.proofs.AnswerWrites.{back_at}
 use Rattle.records.proofs.answer.Answer.write.Goals as goal
 
-pub returns : goal.returns
-returns c =
-    let o = answer_of c.args.self.now in
-    let b = c.args.out.now in
-    let n = c.in_ok-size.size in
-    let h = c.in_ok-size.ensures.value in
-    record {
-      value = value_at o n b h c.if-out-size.false;
-      after = after_at o n b c.put.new.out h c.put.ensures.after;
-      back = back_at o n b c.put.new.out h c.put.ensures.after c.put.ensures.fits;
-    }
+pub returns-in_ok-check_plan-in-Plan-clause-back : goal.returns-in_ok-check_plan-in-Plan-clause-back
+returns-in_ok-check_plan-in-Plan-clause-back c =
+    let plan = c.in-Plan.plan.now in
+    let was = c.put_record.ensures in
+    let sound : flaw_of plan ≡ None = grind (arith, common_steps) in
+    let back = back_at (planned plan c.in-Plan.work) _ _ c.args.out.now _ (omega arith) sound (ap (λ work. framed 0x21 (work ++ plan)) c.to_be_bytes-work.ensures) was.value was.after in
+    rw c.in-Plan.is back

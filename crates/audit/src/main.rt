@@ -30,7 +30,7 @@ fn run(rt: &HostRuntime) -> anyhow::Result<Verdict> {
     Ok(report.verdict)
 }
 
-// The bytes of a file.
+// The bytes of a file. A `match`, since making the message can fail.
 fn contents(rt: &HostRuntime, path: &str) -> anyhow::Result<Vec<u8>> {
     match fs::read(rt, path) {
         Ok(bytes) => Ok(bytes),

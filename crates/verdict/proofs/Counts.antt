@@ -1,6 +1,5 @@
 -- What a plan breaks of the clauses and of the pins, it breaks of both together.
 use Rattle.std.proofs.Common.{◌≡◌, ℕ, ◌+◌, ◌≤◌, cond, not, eqb, ltb, List, ◌++◌, length, Ok, Err, Result, sym, ap, ◌∙◌, arith, length-append}
-use Rattle.std.proofs.lemmas.List.{length-map}
 use Rattle.std.proofs.lemmas.List.Sums.{sum_by-append}
 use Rattle.std.proofs.lemmas.Bool.{eq-eqb, le-ltb, cond-true, cond-false}
 use Rattle.laws.specs.declared.fault.Fault.{Fault}
@@ -8,18 +7,11 @@ use Rattle.laws.specs.Clauses.{true_in}
 use Rattle.laws.specs.Faults.{fault}
 use Rattle.laws.specs.Outcomes.{planned}
 use Rattle.laws.specs.Plans.{broken}
-use Rattle.table.specs.declared.table.Table.{Table}
-use Rattle.table.specs.Codes.{codes_of}
-use Rattle.table.specs.Held.{clauses_of}
 use Rattle.table.specs.Judged.{judged}
 use Rattle.verdict.specs.declared.failure.Failure.{Failure}
 use Rattle.verdict.specs.declared.verdict.Verdict.{Verdict}
 use Rattle.verdict.specs.Hours.{Asked}
 use Rattle.verdict.specs.Judging.{judge, counted, all_of}
-
--- a table has at most 1,024 clauses
-pub few_of : (t : Table) → length (clauses_of t) ≤ 1024
-few_of t = let l = length-map t.clauses.items codes_of in omega (arith, t.few, t.clauses.ok.0, l)
 
 pub broken_append : (p : List ℕ) (Cs Ds : List (List ℕ)) → broken p (Cs ++ Ds) ≡ broken p Cs + broken p Ds
 broken_append p Cs Ds = sum_by-append (λ C. cond (not (true_in p C)) 1 0) Cs Ds

@@ -4,4 +4,5 @@ pub mod Counts
 pub mod Loads
 pub mod Keeping
 pub mod Listings
-pub mod Made
+pub mod Meanings
+pub mod Laid

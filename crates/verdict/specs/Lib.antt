@@ -2,7 +2,6 @@ pub mod Failures
 pub mod Hours
 pub mod Judging
 pub mod Loading
-pub mod Meanings
 pub mod Offsets
 pub mod Reported
 pub mod Texts

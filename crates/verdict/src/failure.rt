@@ -3,7 +3,7 @@ ghost use Rattle.std.specs.Prelude.{◌≡◌};
 ghost use Rattle.verdict.specs.declared.failure.Failure.TheVariants.{Answer, Memory, Sheet};
 ghost use Rattle.verdict.specs.Failures.{from_error};
 
-use crate::words::meaning;
+use crate::words::Meaning;
 use laws::Fault;
 use records::AnswerError;
 use std::alloc::AllocError;
@@ -63,7 +63,7 @@ impl fmt::Display for Failure {
             Failure::Sheet(fault) => {
                 let number = fault.number;
                 let offset = fault.offset;
-                let why = meaning(number);
+                let why = Meaning(number);
                 write!(
                     f,
                     "the sheet file is refused with {number} at offset {offset}: {why}"

@@ -1,8 +1,10 @@
 // Holds a plan against a sheet file, clause by clause and pin by pin, and says so in plain words.
 #![tactic(auto)]
 
+mod answer_words;
 mod failure;
 mod hour;
+mod lines;
 mod load;
 mod report;
 mod stands;

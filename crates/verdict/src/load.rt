@@ -28,6 +28,7 @@ impl Hour {
     {
         let mut reader = Reader::new(src);
         let mut hour = Hour::new(heap, 0);
+        // no iterator: the reader refuses again after a refusal, so one would need a flag to end
         loop {
             let at = reader.position();
             let got = reader.read()?;
@@ -46,21 +47,24 @@ impl Hour {
             Record::Header(last) => *self = Hour::new(heap, last),
             Record::Clause { codes: bytes, .. } => {
                 let list = codes(heap, bytes)?;
-                placed(self.clauses.add(list.as_slice()), at)?;
+                self.clauses
+                    .add(list.as_slice())
+                    .map_err(|e| placed(e, at))?;
             }
-            Record::Pin(code) => placed(self.pins.add(&[code]), at)?,
+            Record::Pin(code) => self.pins.add(&[code]).map_err(|e| placed(e, at))?,
             Record::End => {}
         }
         Ok(())
     }
 }
 
-// A refusal of the record at an offset.
-fn placed(r: Result<(), Error>, at: u16) -> Result<(), Error>
-    ensures { result ≡ offset_by at r }
+// The same error; a refusal is one of the record at an offset. No function of `table` that takes the change of the fault: it
+// would be public, and have a `requires` for the closure.
+fn placed(e: Error, at: u16) -> Error
+    ensures { result ≡ offset_by at e }
 {
-    match r {
-        Err(Error::Refused(f)) => Err(Error::Refused(Fault { offset: at, ..f })),
-        _ => r,
+    match e {
+        Error::Refused(f) => Error::Refused(Fault { offset: at, ..f }),
+        Error::Memory => Error::Memory,
     }
 }

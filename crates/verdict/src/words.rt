@@ -1,120 +1,142 @@
-// Literals, clauses, plans and refusals in plain words.
-ghost use Rattle.std.specs.Prelude.{◌≡◌, IfOk, string_bytes, nat_eq};
+// Literals, clauses, plans and refusals' numbers in plain words.
+ghost use Rattle.std.specs.Prelude.{◌≡◌, Some, nat_eq};
 ghost use Rattle.laws.specs.Lists.{every};
-ghost use Rattle.verdict.specs.Meanings.{meaning_of};
+ghost use Rattle.laws.specs.Meanings.{meaning_of};
 ghost use Rattle.verdict.specs.Words.{literal_words, literal_at, clause_words, truth_words, choice_at, plan_words};
 
-use std::alloc::{AllocError, Global};
+use laws::Check;
+use std::fmt;
 use table::{choice_of, takes};
 
-// A literal, as `take 3` or `leave 7`.
-pub(crate) fn literal_words(heap: Global, code: u16) -> Result<String, AllocError>
-    ensures { IfOk result (λ s. string_bytes s ≡ literal_words code) }
-{
-    let c = choice_of(code);
-    if takes(code) {
-        format!(in heap; "take {c}")
-    } else {
-        format!(in heap; "leave {c}")
+// A literal by its code, as `take 3` or `leave 7`.
+#[derive(Clone, Copy)]
+pub(crate) struct Literal(u16);
+
+impl fmt::Display for Literal {
+    ghost output = { λ l. Some (literal_words l.0) };
+
+    fn fmt<W: fmt::Write>(&self, f: &mut fmt::Formatter<W>) -> fmt::Result {
+        let c = choice_of(self.0);
+        if takes(self.0) {
+            write!(f, "take {c}")
+        } else {
+            write!(f, "leave {c}")
+        }
     }
 }
 
 // The literal at a position of a clause; ` or ` stands before each but the first.
-fn literal_at(heap: Global, at: usize, code: u16) -> Result<String, AllocError>
-    ensures { IfOk result (λ s. string_bytes s ≡ literal_at at code) }
-{
-    let words = literal_words(heap, code)?;
-    if at == 0 {
-        return Ok(words);
+#[derive(Clone, Copy)]
+struct LiteralAt {
+    at: usize,
+    code: u16,
+}
+
+impl fmt::Display for LiteralAt {
+    ghost output = { λ l. Some (literal_at l.at l.code) };
+
+    fn fmt<W: fmt::Write>(&self, f: &mut fmt::Formatter<W>) -> fmt::Result {
+        let literal = Literal(self.code);
+        if self.at == 0 {
+            write!(f, "{literal}")
+        } else {
+            write!(f, " or {literal}")
+        }
     }
-    format!(in heap; " or {words}")
 }
 
 // A clause, as `take 3 or leave 7`.
-pub(crate) fn clause_words(heap: Global, codes: &[u16]) -> Result<String, AllocError>
-    ensures { IfOk result (λ s. string_bytes s ≡ clause_words codes.now) }
-{
-    let mut text = String::new(heap);
-    for (i, code) in codes.iter().enumerate() {
-        let words = literal_at(heap, i, *code)?;
-        text.push_str(words.as_str())?;
+#[derive(Clone, Copy)]
+pub(crate) struct ClauseWords<'a> {
+    pub(crate) codes: &'a [u16],
+}
+
+impl fmt::Display for ClauseWords<'_> {
+    ghost output = { λ c. Some (clause_words c.codes.now) };
+
+    fn fmt<W: fmt::Write>(&self, f: &mut fmt::Formatter<W>) -> fmt::Result {
+        for (at, code) in self.codes.iter().enumerate() {
+            let literal = LiteralAt { at, code: *code };
+            write!(f, "{literal}")?;
+        }
+        Ok(())
     }
-    Ok(text)
 }
 
 // What makes a clause true, or that nothing does.
-pub(crate) fn truth_words(heap: Global, agreeing: Option<u16>) -> Result<String, AllocError>
-    ensures { IfOk result (λ s. string_bytes s ≡ truth_words agreeing) }
-{
-    match agreeing {
-        Some(code) => {
-            let words = literal_words(heap, code)?;
-            format!(in heap; "true by {words}")
+#[derive(Clone, Copy)]
+pub(crate) struct Truth {
+    pub(crate) agreeing: Option<u16>,
+}
+
+impl fmt::Display for Truth {
+    ghost output = { λ t. Some (truth_words t.agreeing) };
+
+    fn fmt<W: fmt::Write>(&self, f: &mut fmt::Formatter<W>) -> fmt::Result {
+        match self.agreeing {
+            Some(code) => write!(f, "true by {}", Literal(code)),
+            None => f.write_str("FALSE"),
         }
-        None => String::from_str(heap, "FALSE"),
     }
 }
 
-// The choice behind a space if its byte of the plan says that it is taken, and else nothing.
-fn choice_at(heap: Global, c: usize, byte: u8) -> Result<String, AllocError>
-    ensures { IfOk result (λ s. string_bytes s ≡ choice_at c byte) }
-{
-    if byte == 0 {
-        return Ok(String::new(heap));
+// A choice behind a space if its byte of the plan says that it is taken, and else nothing.
+#[derive(Clone, Copy)]
+struct ChoiceAt {
+    c: usize,
+    byte: u8,
+}
+
+impl fmt::Display for ChoiceAt {
+    ghost output = { λ x. Some (choice_at x.c x.byte) };
+
+    fn fmt<W: fmt::Write>(&self, f: &mut fmt::Formatter<W>) -> fmt::Result {
+        if self.byte == 0 {
+            return Ok(());
+        }
+        write!(f, " {}", self.c)
     }
-    format!(in heap; " {c}")
 }
 
 // Whether a plan takes no choice.
 fn takes_nothing(plan: &[u8]) -> bool
     ensures { result ≡ every (λ b. nat_eq b 0) plan.now }
 {
-    for byte in plan {
-        if *byte != 0 {
-            return false;
-        }
-    }
-    true
+    plan.iter().all(|byte| *byte == 0)
 }
 
 // The choices that a plan takes, as ` 0 3`, or ` nothing`.
-pub(crate) fn plan_words(heap: Global, plan: &[u8]) -> Result<String, AllocError>
-    ensures { IfOk result (λ s. string_bytes s ≡ plan_words plan.now) }
-{
-    if takes_nothing(plan) {
-        return String::from_str(heap, " nothing");
+#[derive(Clone, Copy)]
+pub(crate) struct PlanWords<'a> {
+    pub(crate) plan: &'a [u8],
+}
+
+impl fmt::Display for PlanWords<'_> {
+    ghost output = { λ p. Some (plan_words p.plan.now) };
+
+    fn fmt<W: fmt::Write>(&self, f: &mut fmt::Formatter<W>) -> fmt::Result {
+        if takes_nothing(self.plan) {
+            return f.write_str(" nothing");
+        }
+        for (c, byte) in self.plan.iter().enumerate() {
+            let choice = ChoiceAt { c, byte: *byte };
+            write!(f, "{choice}")?;
+        }
+        Ok(())
     }
-    let mut text = String::new(heap);
-    for (c, byte) in plan.iter().enumerate() {
-        let words = choice_at(heap, c, *byte)?;
-        text.push_str(words.as_str())?;
-    }
-    Ok(text)
 }
 
 // What a refusal's number says.
-pub(crate) fn meaning(number: u8) -> &'static str
-    ensures { result.now ≡ meaning_of number }
-{
-    match number {
-        11 => "a clause has no code, or more than 256",
-        12 => "a code is above the largest that the last choice allows",
-        13 => "a choice stands twice in one clause",
-        14 => "no more clauses may stand",
-        15 => "no more literals may stand",
-        21 => "the literal is pinned already",
-        22 => "no more pins may stand",
-        23 => "the literal is not pinned",
-        31 => "the plan's buffer is shorter than one byte for each choice",
-        41 => "the splitter's limit of splits ran out",
-        42 => "more choices occur than the lister tries",
-        50 => "the file is longer than 65,535 bytes",
-        51 => "a record is cut short, or the end record is missing",
-        52 => "a record's tag is unknown",
-        53 => "the header is not first, or stands twice",
-        54 => "a record's length does not fit its tag",
-        55 => "bytes stand behind the end record",
-        56 => "the buffer is too short for the file",
-        _ => "a number that this program does not know",
+#[derive(Clone, Copy)]
+pub(crate) struct Meaning(pub(crate) u8);
+
+impl fmt::Display for Meaning {
+    ghost output = { λ m. Some (meaning_of m.0) };
+
+    fn fmt<W: fmt::Write>(&self, f: &mut fmt::Formatter<W>) -> fmt::Result {
+        match Check::try_from(self.0) {
+            Ok(check) => write!(f, "{check}"),
+            Err(unknown) => write!(f, "{unknown}"),
+        }
     }
 }

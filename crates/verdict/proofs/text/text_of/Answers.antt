@@ -1,21 +1,20 @@
--- The five parts, one behind the other.
-use Rattle.std.proofs.Common.{◌≡◌, ℕ, List, ◌++◌, codes, ap, ◌∙◌}
+-- The lines, one behind the other; the plan that they are made with is the answer's.
+use Rattle.std.proofs.Common.{codes, ap, ◌∙◌, ◌++◌}
+use Rattle.std.proofs.lemmas.Result.{IfOk-weaker}
 use Rattle.table.specs.Held.{clauses_of}
-use Rattle.verdict.specs.Texts.{table_lines}
+use Rattle.records.specs.Answers.{answer_of}
+use Rattle.verdict.specs.Hours.{asked_of}
+use Rattle.verdict.specs.Texts.{hour_words, table_lines, answer_words, verdict_words, size_line, answer_lines, verdict_line}
+use Rattle.verdict.proofs.Laid.{text_is}
 use Rattle.verdict.proofs.text.text_of.Goals as goal
-
--- parts that are equal make equal texts
-five : (a b c d e v w x y z : List ℕ) → a ≡ v → b ≡ w → c ≡ x → d ≡ y → e ≡ z
-    → a ++ (b ++ (c ++ (d ++ e))) ≡ v ++ (w ++ (x ++ (y ++ z)))
-five a b c d e v w x y z p q r s t = cc
 
 pub returns : goal.returns
 returns c =
     let h = c.args.hour.now in
-    c.in_ok-text.ensures.ok
-    ∙ five _ _ _ _ _ _ _ _ _ _
-    c.in_ok-size.ensures
-    (c.in_ok-clauses.ensures ∙ ap (λ p. table_lines (codes "clause") p (clauses_of h.clauses)) c.plan_of-plan.ensures)
-    (c.in_ok-pins.ensures ∙ ap (λ p. table_lines (codes "pin") p (clauses_of h.pins)) c.plan_of-plan.ensures)
-    c.in_ok-said.ensures
-    c.in_ok-held.ensures
+    let o = answer_of c.args.answer.now in
+    let v = c.args.verdict in
+    IfOk-weaker c.format.result _ _
+    (λ s made. made ∙ text_is (hour_words (asked_of h)) _ _ (answer_words o) (verdict_words v)
+    ∙ ap (λ p. size_line (asked_of h) ++ (table_lines (codes "clause") p (clauses_of h.clauses)
+    ++ (table_lines (codes "pin") p (clauses_of h.pins) ++ (answer_lines o ++ verdict_line v)))) c.plan-plan.ensures)
+    c.format.ensures.ok

@@ -20,15 +20,11 @@ fn table_of(heap: Global, last: u8, clauses: &[&[u16]]) -> Result<Table, Error> 
 
 // Whether clauses are these, in their order.
 fn are(clauses: &[Clause], want: &[&[u16]]) -> bool {
-    if clauses.len() != want.len() {
-        return false;
-    }
-    for (clause, codes) in clauses.iter().zip(want) {
-        if clause.codes() != *codes {
-            return false;
-        }
-    }
-    true
+    clauses.len() == want.len()
+        && clauses
+            .iter()
+            .zip(want)
+            .all(|(clause, codes)| clause.codes() == *codes)
 }
 
 fn clause_of(heap: Global, codes: &[u16]) -> Result<Clause, AllocError> {

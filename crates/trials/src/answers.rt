@@ -77,6 +77,7 @@ fn a_refused_write_leaves_the_buffer(rt: HostRuntime) {
 #[test]
 fn a_cut_record_is_refused_at_every_byte(rt: HostRuntime) {
     let record = [0x21, 0, 6, 0, 0, 1, 2, 1, 0];
+    // a range of lengths, no index
     for n in 0..9 {
         assert_eq!(rt; Answer::read(&record[0..n]), Err(AnswerError::Cut));
     }

@@ -7,6 +7,7 @@ use std::test::Fail;
 // Last choice 7, the clause {0, 3}, the pin 4, the end.
 const FILE: [u8; 19] = [1, 0, 1, 7, 2, 0, 4, 0, 0, 0, 3, 3, 0, 2, 0, 4, 15, 0, 0];
 
+// By number, since the tests hold the code's names against the rules' numbers.
 fn refusal(number: u8, offset: u16) -> Result<usize, Fault> {
     Err(Fault {
         layer: 1,
@@ -32,6 +33,7 @@ fn record_at(n: usize) -> u16 {
 
 #[test]
 fn a_file_cut_at_every_byte(rt: HostRuntime) {
+    // a range of lengths, no index
     for n in 0..19 {
         assert_eq!(rt; scan(&FILE[0..n]), refusal(51, record_at(n)));
     }
@@ -55,9 +57,7 @@ fn records_come_one_by_one(rt: HostRuntime) -> Result<(), Fail> {
     };
     assert_eq!(rt; offset, 7);
     let list = codes(rt.alloc(), bytes)?;
-    assert!(rt; list.len() == 2);
-    assert_eq!(rt; list[0], 0);
-    assert_eq!(rt; list[1], 3);
+    assert!(rt; list.as_slice() == [0, 3].as_slice());
     let Record::Pin(code) = reader.read()? else {
         return Err(Fail::new("no pin"));
     };
@@ -120,24 +120,23 @@ fn each_refusal_has_its_offset(rt: HostRuntime) {
     );
 }
 
-// A header, a pin, a clause of 65,520 bytes and the end: 65,535 bytes in all, and as many zeros more as asked.
-fn longest(heap: Global, more: usize) -> Result<Vec<u8>, AllocError> {
+// A header, a pin, a clause of 65,520 bytes and the end: 65,535 bytes in all, and zeros behind them up to a size.
+fn longest(heap: Global, size: usize) -> Result<Vec<u8>, AllocError> {
     let mut file = Vec::new(heap);
     file.extend_from_slice(&[1, 0, 1, 7, 3, 0, 2, 0, 4, 2, 0xFF, 0xF0])?;
-    for _ in 0..65520 {
-        file.push(0)?;
-    }
+    file.resize(65532, 0)?;
     file.extend_from_slice(&[15, 0, 0])?;
-    for _ in 0..more {
-        file.push(0)?;
-    }
+    file.resize(size, 0)?;
     Ok(file)
 }
 
 #[test]
 fn a_file_has_at_most_65535_bytes(rt: HostRuntime) -> Result<(), Fail> {
-    assert_eq!(rt; scan(longest(rt.alloc(), 0)?.as_slice()), Ok(4));
-    assert_eq!(rt; scan(longest(rt.alloc(), 1)?.as_slice()), refusal(50, 0));
+    assert_eq!(rt; scan(longest(rt.alloc(), 65535)?.as_slice()), Ok(4));
+    assert_eq!(rt;
+        scan(longest(rt.alloc(), 65536)?.as_slice()),
+        refusal(50, 0)
+    );
     Ok(())
 }
 

@@ -6,13 +6,10 @@ use table::{Error, Table};
 
 // The codes 0, 2, 4 and on: `n` choices taken.
 fn taking(heap: Global, n: u16) -> Result<Vec<u16>, AllocError> {
-    let mut codes = Vec::new(heap);
-    for c in 0..n {
-        codes.push(c.wrapping_mul(2))?;
-    }
-    Ok(codes)
+    (0..n).map(|c| c.wrapping_mul(2)).collect(heap)
 }
 
+// By number, here and below, since the tests hold the code's names against the rules' numbers.
 fn refusal(number: u8, place: u16) -> Result<(), Error> {
     Err(Error::Refused(Fault {
         layer: 3,
@@ -61,10 +58,7 @@ fn a_choice_stands_once(rt: HostRuntime) -> Result<(), Fail> {
     assert_eq!(rt; table.add(&[6, 6, 0, 0]), refusal(13, 1));
     assert_eq!(rt; table.add(&[6, 3, 0]), Ok(()));
     let clause = table.clause(0).ok_or("no clause")?;
-    assert!(rt; clause.codes().len() == 3);
-    assert_eq!(rt; clause.codes()[0], 0);
-    assert_eq!(rt; clause.codes()[1], 3);
-    assert_eq!(rt; clause.codes()[2], 6);
+    assert!(rt; clause.codes() == [0, 3, 6].as_slice());
     Ok(())
 }
 

@@ -239,7 +239,8 @@ fn put_record(out: &mut [u8], kind: Kind, first: &[u8], rest: &[u8]) -> Result<u
     Ok(size)
 }
 
-// What holds of records: what is written is read back as the same answer, and what is accepted is what would be written.
+// What holds of records: what is written is read back as the same answer, and what is accepted is what would be written. A
+// function for this law alone, as in `laws`: the clause is no type parameter.
 pub fn answers_stand() -> u8
     ensures { AnswerLaws }
 {

@@ -1,4 +1,5 @@
-// All resolvents of a choice.
+// All resolvents of a choice. No struct of a table and a choice, here and in `sizes`: the public functions take them apart, and it
+// would only be wrapped and unwrapped.
 ghost use Rattle.std.specs.Prelude.{◌≡◌, ◌++◌, map, IfOk, OnOk};
 ghost use Rattle.laws.specs.Literals.{leaving};
 ghost use Rattle.laws.specs.Resolving.{holding, resolvents_of, resolvents as resolvents_by};

@@ -11,7 +11,7 @@ use crate::verdict::Verdict;
 use records::Answer;
 use std::alloc::{AllocError, Global};
 
-// The whole text.
+// The whole text, the one `String` that a report makes.
 pub(crate) fn text_of(
     heap: Global,
     hour: &Hour,

@@ -43,7 +43,7 @@ impl Kind {
         Ok(())
     }
 
-    // What a body of a fitting length stands for.
+    // What a body of a fitting length stands for. No `TryFrom`: its error could not come.
     pub(crate) fn read_body<'a>(self, body: &'a [u8]) -> Result<Answer<'a>, AnswerError>
         requires { head_of (kind_number self) (length body.now) ≡ Ok tt }
         ensures value { means result ≡ body_in (kind_number self) body.now }

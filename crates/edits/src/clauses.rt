@@ -13,7 +13,7 @@ pub(crate) fn drop_meeting(clauses: &mut Vec<Clause>, set: &[u16])
     clauses.retain(|clause| !meeting(clause.codes(), set));
 }
 
-// Deletes the negations of the literals of `set` from each clause.
+// Deletes the negations of the literals of `set` from each clause. A `for`, since nothing is proved of what a `for_each` changes.
 pub(crate) fn strip_each(clauses: &mut Vec<Clause>, set: &[u16])
     ensures { map codes_of clauses.new.items ≡ map (strip set.now) (map codes_of clauses.old.items) }
 {

@@ -3,6 +3,7 @@ use laws::Fault;
 use records::{Answer, AnswerError, WriteError};
 use std::test::Fail;
 
+// By number, since an answer record may carry any.
 const FAULT: Fault = Fault {
     layer: 3,
     depth: 2,

@@ -45,7 +45,7 @@ impl fmt::Display for LiteralAt {
     }
 }
 
-// A clause, as `take 3 or leave 7`.
+// A clause, as `take 3 or leave 7`. No generic type for this, `PlanWords` and `Lines`: see `lines`.
 #[derive(Clone, Copy)]
 pub(crate) struct ClauseWords<'a> {
     pub(crate) codes: &'a [u16],

@@ -5,14 +5,28 @@ ghost use Rattle.table.specs.Held.{tab_of};
 ghost use Rattle.edits.specs.Growth.{Appended};
 
 use crate::codes::is_lawful;
-use std::alloc::AllocError;
+use std::alloc::{AllocError, Global};
 use table::{Clause, MOST_CLAUSES, MOST_LITERALS, Table};
+
+// A clause again, in memory of its own.
+fn copied(heap: Global, clause: &Clause) -> Result<Clause, AllocError>
+    ensures { IfOk result (λ C. codes_of C ≡ codes_of clause.now) }
+{
+    let codes = Vec::from_slice(heap, clause.codes())?;
+    Ok(Clause { codes })
+}
 
 // The table again, in memory of its own. A table has ghost fields, so it can derive no `Clone`.
 pub fn copy(table: &Table) -> Result<Table, AllocError>
     ensures { IfOk result (λ u. tab_of u ≡ tab_of table.now) }
 {
-    let clauses = table.clauses.clone()?;
+    // no chain, since copying a clause can fail, and no `clone` of the whole: it takes the vector's memory at once and then that of
+    // the clauses, an order that the allocator serves slower
+    let mut clauses = Vec::new(table.heap);
+    for clause in table.clauses.iter() {
+        let own = copied(table.heap, clause)?;
+        clauses.push(own)?;
+    }
     Ok(Table {
         heap: table.heap,
         last: table.last,

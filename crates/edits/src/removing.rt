@@ -1,6 +1,7 @@
 // Clauses and literals taken away.
-ghost use Rattle.std.specs.Prelude.{◌≡◌};
+ghost use Rattle.std.specs.Prelude.{◌≡◌, [], ◌∷◌};
 ghost use Rattle.std.specs.List.{remove};
+ghost use Rattle.laws.specs.Literals.{leaving, taking};
 ghost use Rattle.laws.specs.Resolving.{others};
 ghost use Rattle.laws.specs.Trim.{deleted_at};
 ghost use Rattle.table.specs.Held.{tab_of, clauses_of};
@@ -28,9 +29,16 @@ pub fn delete_at(table: &mut Table, at: usize, code: u16)
     }
 }
 
+// The two literals of a choice.
+fn literals_of(c: u8) -> [u16; 2]
+    ensures { result ≡ taking c ∷ leaving c ∷ [] }
+{
+    [taking(c), leaving(c)]
+}
+
 // Drops every clause that speaks of a choice.
 pub fn drop_choice(table: &mut Table, c: u8)
     ensures { tab_of table.new ≡ record { last = (tab_of table.old).last; clauses = others c (clauses_of table.old) } }
 {
-    drop_meeting(&mut table.clauses, &[taking(c), leaving(c)]);
+    drop_meeting(&mut table.clauses, &literals_of(c));
 }

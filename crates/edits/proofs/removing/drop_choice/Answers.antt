@@ -1,7 +1,7 @@
 -- The clauses that contain neither literal of the choice.
-use Rattle.std.proofs.Common.{◌≡◌, not, eqb, [], ◌∷◌, map, filter, ap, ◌∙◌}
+use Rattle.std.proofs.Common.{◌≡◌, not, eqb, map, filter, ap, ◌∙◌}
 use Rattle.laws.specs.Lists.{any}
-use Rattle.laws.specs.Literals.{choice, taking}
+use Rattle.laws.specs.Literals.{choice}
 use Rattle.laws.specs.Setting.{meets}
 use Rattle.laws.specs.Resolving.{others}
 use Rattle.table.specs.Codes.{codes_of}
@@ -14,10 +14,7 @@ use Rattle.edits.proofs.removing.drop_choice.Goals.{After-drop_meeting}
 left : (c : After-drop_meeting) → map codes_of c.drop_meeting.new.clauses.items ≡ others c.args.c (clauses_of c.args.table.now)
 left c =
     let Cs = clauses_of c.args.table.now in
-    c.drop_meeting.ensures
-    ∙ ap (λ l. filter (λ C. not (meets (l ∷ c.leaving.result ∷ []) C)) Cs) c.taking.ensures
-    ∙ ap (λ l. filter (λ C. not (meets (taking c.args.c ∷ l ∷ []) C)) Cs) c.leaving.ensures
-    ∙ others_meeting c.args.c Cs
+    c.drop_meeting.ensures ∙ ap (λ ws. filter (λ C. not (meets ws C)) Cs) c.literals_of.ensures ∙ others_meeting c.args.c Cs
 
 pub invariant_of-table : goal.invariant_of-table
 invariant_of-table c =

@@ -18,17 +18,17 @@ use Rattle.records.specs.AnswerLaws.{FaultFits, OutcomeFits, RecordOf, AnswerLaw
 
 -- numbers and their bytes
 
-two_back : (n : ℕ) → n < 65536 → n / 256 % 256 * 256 + n % 256 ≡ n
+pub two_back : (n : ℕ) → n < 65536 → n / 256 % 256 * 256 + n % 256 ≡ n
 two_back n h = omega arith
 
-four_back : (n : ℕ) → n < 2 ^ 32
+pub four_back : (n : ℕ) → n < 2 ^ 32
     → n / 16777216 % 256 * 16777216 + n / 65536 % 256 * 65536 + n / 256 % 256 * 256 + n % 256 ≡ n
 four_back n h = from_be_bytes-to_be_bytes_4 n h
 
 -- reading
 
 -- where the checks of head and length pass, bytes stand for what their body stands for
-whole : (bs : List ℕ) (n : ℕ)
+pub whole : (bs : List ℕ) (n : ℕ)
     → n ≡ from_two 1 bs → 3 ≤ length bs → head_of (get_or bs 0 0) n ≡ Ok tt
     → 3 + n ≤ length bs → length bs ≤ 3 + n
     → body_in (get_or bs 0 0) (drop 3 bs) ≡ decode bs
